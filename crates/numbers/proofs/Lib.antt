@@ -1,0 +1,6 @@
+pub mod Signs
+pub mod Powers
+pub mod Tables
+pub mod First
+pub mod Listed
+pub mod Ranges

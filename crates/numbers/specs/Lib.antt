@@ -1,0 +1,4 @@
+pub mod Natural
+pub mod Refusal
+pub mod First
+pub mod Listed

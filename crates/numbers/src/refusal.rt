@@ -1,0 +1,37 @@
+// Why a call says no, and the number it says it with.
+ghost use mathlib.Core.Path.{_≡_};
+ghost use Rattle.numbers.specs.Refusal.{numberOf};
+
+pub enum Refusal {
+    ChannelCount,
+    MinimumVolume,
+    ClippedLevelStep,
+    WaitFrames,
+    TargetRange,
+    SpeechThreshold,
+    PredictorConfig,
+    InputVolume,
+    FrameSize,
+    EstimateRange,
+    RingRange,
+    FrameLine,
+}
+
+pub fn number(cause: Refusal) -> u32
+    ensures { λ r. ⌜ r ≡ numberOf cause ⌝ }
+{
+    match cause {
+        Refusal::ChannelCount => 1,
+        Refusal::MinimumVolume => 2,
+        Refusal::ClippedLevelStep => 3,
+        Refusal::WaitFrames => 4,
+        Refusal::TargetRange => 5,
+        Refusal::SpeechThreshold => 6,
+        Refusal::PredictorConfig => 7,
+        Refusal::InputVolume => 8,
+        Refusal::FrameSize => 9,
+        Refusal::EstimateRange => 10,
+        Refusal::RingRange => 11,
+        Refusal::FrameLine => 12,
+    }
+}
