@@ -4,3 +4,4 @@ pub mod Tables
 pub mod First
 pub mod Listed
 pub mod Ranges
+pub mod Loops

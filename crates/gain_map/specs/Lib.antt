@@ -1,0 +1,2 @@
+pub mod GainMap
+pub mod VolumeUpdate

@@ -1,0 +1,13 @@
+pub mod Pattern
+pub mod Fields
+pub mod Unsigned
+pub mod Whole
+pub mod Rounded
+pub mod Digits
+pub mod Bounds
+pub mod Sums
+pub mod Nearness
+pub mod Floats
+pub mod Cases
+pub mod Accuracy
+pub mod Quiet

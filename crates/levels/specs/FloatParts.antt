@@ -1,0 +1,23 @@
+-- Document 01, "Levels": "The float's sign bit, eight exponent bits and 23 fraction bits are taken apart by the program." Definitions only.
+use Prim.Native.Nat.{ℕ, _/_, _%_, _^_}
+use mathlib.Core.Bool.{true, false}
+use lib.Dec.{eqb}
+use lib.Ieee.{Float, nan, inf, fin, binary32, toBits}
+use Rattle.levels.specs.declared.parts.Parts.{Parts}
+use Rattle.levels.specs.declared.parts.Parts.the-variants.{NotANumber, Fields}
+
+-- the three fields of a bit pattern
+abbrev pub fieldsOf : ℕ → Parts
+fieldsOf b = Fields (eqb (b / 2 ^ 31) 1) (b / 2 ^ 23 % 2 ^ 8) (b % 2 ^ 23)
+
+-- a not-a-number has no pattern of its own
+unfoldable pub partsOf : Float → Parts
+partsOf nan = NotANumber
+partsOf (inf s) = fieldsOf (toBits binary32 (inf s))
+partsOf (fin s m e) = fieldsOf (toBits binary32 (fin s m e))
+
+-- Rust's `abs`: the same number without its sign
+unfoldable pub magnitudeOf : Float → Float
+magnitudeOf nan = nan
+magnitudeOf (inf s) = inf false
+magnitudeOf (fin s m e) = fin false m e
