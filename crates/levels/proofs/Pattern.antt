@@ -3,12 +3,12 @@ use mathlib.Core.Path.{_≡_, refl, sym, ap, subst, _∙_}
 use mathlib.Core.Bool.{Bool, true, false, not}
 use Prim.Native.Nat.{ℕ, zero, suc, _+_, _*_, _/_, _%_, _^_, _≤_, _<_}
 use native.Mathlib.Omega.{arith}
-use borrow.Author.Tests.{leb-true, leb-false, eq-eqb, ne-eqb}
+use borrow.Author.Tests.{leb-true, leb-false, eq-eqb, ne-eqb, lt-ltb, le-ltb}
 use lib.Dec.{T, leb, eqb}
 use lib.Bits.{bitAnd, and-mask}
 use lib.Pow.{field}
-use lib.Ieee.{Float, nan, inf, fin, binary32, ne, fits, isNan, toBits, ofBits, ofFields, odd}
-use lib.Ieee.Bits.{ofBits-toBits, toBits-lt}
+use lib.Ieee.{Float, nan, inf, fin, binary32, ne, fits, isNan, nanBits, toBits, ofBits, ofFields}
+use lib.Ieee.Bits.{ofBits-toBits, toBits-lt, nanBits-is, nanBits-above}
 use lib.Ieee.Compare.{differs-from-itself, nan-differs}
 use Rattle.numbers.proofs.Signs.{clash}
 use Rattle.levels.specs.declared.parts.Parts.the-variants.{NotANumber, Fields}
@@ -84,3 +84,17 @@ stands (fin r m k) f s e t p = read (fin r m k) f s e t refl p
 pub own-fields : (x : Float) → T (fits binary32 x) → isNan x ≡ false
     → Stands x (eqb (toBits binary32 x / 2 ^ 31) 1) (toBits binary32 x / 2 ^ 23 % 2 ^ 8) (toBits binary32 x % 2 ^ 23)
 own-fields x f n = stands x f (eqb (toBits binary32 x / 2 ^ 31) 1) (toBits binary32 x / 2 ^ 23 % 2 ^ 8) (toBits binary32 x % 2 ^ 23) (known x n)
+
+-- ---- patterns of a not-a-number
+
+nan-only : (x : Float) → isNan x ≡ true → x ≡ nan
+unfolding isNan
+nan-only nan e = refl
+nan-only (inf s) e = clash (sym e)
+nan-only (fin s m k) e = clash (sym e)
+
+pub nan-pattern : (b : ℕ) → 2139095040 < b % 2 ^ 31 → ofBits binary32 b ≡ nan
+nan-pattern b h = nan-only (ofBits binary32 b) (sym (nanBits-is binary32 b) ∙ nanBits-above binary32 b ∙ lt-ltb 2139095040 (b % 2 ^ 31) h)
+
+pub number-pattern : (b : ℕ) → b % 2 ^ 31 ≤ 2139095040 → T (not (nanBits binary32 b))
+number-pattern b h = subst (λ (t : Bool). T (not t)) (sym (nanBits-above binary32 b ∙ le-ltb 2139095040 (b % 2 ^ 31) h)) tt

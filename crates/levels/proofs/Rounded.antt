@@ -1,4 +1,4 @@
--- Rounding a float, from its fields, and a magnitude with its sign as the machine makes it. Assumes nothing.
+-- Rounding a float, from its fields. Assumes nothing.
 use mathlib.Core.Path.{_≡_, refl, sym, ap, subst, _∙_}
 use mathlib.Core.Bool.{Bool, true, false, cond}
 use Prim.Native.Nat.{ℕ, zero, suc, _+_, _-_, _*_, _/_, _^_, _≤_, _<_, min}
@@ -6,11 +6,7 @@ use native.Mathlib.Nat.{mul-assoc, add-mul, mul-comm}
 use native.Mathlib.Omega.{arith}
 use borrow.Author.Tests.{ne-eqb}
 use lib.Dec.{eqb}
-use lib.IntN.{ℤ, pos, negsuc, negℤ, _-ℤ_, +ℤ-idl}
-use lib.Signed.{mag}
-use mir.Syntax.{w32}
-use mir.Val.{SFits, toZ, ofZ}
-use mir.ValLaws.{toZ-ofZ, toZ-pos}
+use lib.IntN.{pos, negℤ}
 use lib.Pow.{pow-pos}
 use lib.Ieee.{Float, nan, inf, fin, binary32, up, down, isNan, ofFields, odd}
 use lib.Ieee.Exact.{HasValue, odd-sign}
@@ -19,7 +15,8 @@ use lib.Ieee.Nearest.{div-same}
 use Rattle.numbers.proofs.Signs.{clash}
 use Rattle.levels.specs.declared.parts.Parts.the-variants.{NotANumber}
 use Rattle.levels.specs.FloatParts.{partsOf}
-use Rattle.levels.specs.Rounding.{halfUp, signed, roundOf, significand, wholePart}
+use Rattle.numbers.specs.Sign.{signed}
+use Rattle.levels.specs.Rounding.{halfUp, roundOf, significand, wholePart}
 use Rattle.levels.proofs.Pattern.{Stands, none-known}
 use Rattle.levels.proofs.Whole.{swap-two}
 
@@ -84,32 +81,3 @@ at-infinite x s e t f q =
 pub at-nan : (x : Float) → partsOf x ≡ NotANumber → roundOf x ≡ pos 0
 unfolding roundOf
 at-nan x e = ap roundOf (none-known x e)
-
--- ---- a magnitude with a sign, as the machine makes it
-neg-mag : (n : ℕ) → mag (negℤ (pos n)) ≤ n
-neg-mag zero = omega arith
-neg-mag (suc n) = omega arith
-
-module _ (n : ℕ) (h : n < 2 ^ 31) where
-  minus-is : pos 0 -ℤ toZ w32 n ≡ negℤ (pos n)
-  minus-is = ap (λ (z : ℤ). pos 0 -ℤ z) (toZ-pos w32 n h) ∙ +ℤ-idl (negℤ (pos n))
-
-  pub minus-fits : SFits w32 (pos 0 -ℤ toZ w32 n)
-  minus-fits = subst (SFits w32) (sym minus-is) (record { sfits = omega (arith, neg-mag n) })
-
-  pub minus-signed : toZ w32 (ofZ w32 (pos 0 -ℤ toZ w32 n)) ≡ signed true n
-  unfolding signed
-  minus-signed = let e : n ≡ min n (2 ^ 31) = omega arith in toZ-ofZ w32 (pos 0 -ℤ toZ w32 n) minus-fits ∙ minus-is ∙ ap (λ (k : ℕ). negℤ (pos k)) e
-
-  pub plus-signed : toZ w32 n ≡ signed false n
-  unfolding signed
-  plus-signed = let e : n ≡ min n (2 ^ 31 - 1) = omega arith in toZ-pos w32 n h ∙ ap pos e
-
-module _ (n : ℕ) (h : 2 ^ 31 ≤ n) where
-  pub minus-held : negsuc 2147483647 ≡ signed true n
-  unfolding signed
-  minus-held = let e : 2147483648 ≡ min n (2 ^ 31) = omega arith in ap (λ (k : ℕ). negℤ (pos k)) e
-
-  pub plus-held : pos 2147483647 ≡ signed false n
-  unfolding signed
-  plus-held = let e : 2147483647 ≡ min n (2 ^ 31 - 1) = omega arith in ap pos e

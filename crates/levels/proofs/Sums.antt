@@ -3,13 +3,12 @@ use mathlib.Core.Path.{_≡_, refl, sym, ap, subst, _∙_}
 use mathlib.Core.Bool.{Bool, true, false}
 use Prim.Native.Nat.{ℕ, zero, suc, _+_, _-_, _^_, _≤_, _<_, min}
 use native.Mathlib.Omega.{arith}
-use lib.IntN.{ℤ, pos, negsuc, negℤ, natAbs, _+ℤ_, _-ℤ_, +ℤ-idl}
+use lib.IntN.{ℤ, pos, negsuc, natAbs, _+ℤ_}
 use lib.Signed.{mag, ltZ}
 use borrow.Author.Tests.{ltb-true, ltb-false}
-use mir.Syntax.{w32, w64}
-use mir.Val.{SFits, toZ, ofZ}
-use mir.ValLaws.{toZ-ofZ}
-use Rattle.numbers.proofs.Signs.{clash, sum-abs, difference-abs, mag-abs}
+use mir.Syntax.{w64}
+use mir.Val.{SFits}
+use Rattle.numbers.proofs.Signs.{clash, sum-abs, neg-abs, mag-abs, abs-mag, read, read64, again64, widened}
 use Rattle.levels.specs.declared.decibels.Decibels.{Decibels}
 use Rattle.levels.specs.declared.decibels.Decibels.the-variants.{Finite, PlusInfinity, MinusInfinity, NotANumber}
 use Rattle.levels.specs.Decibels.{held32, held, infinity, plus, negated, minus, Bounded, Combined}
@@ -82,11 +81,6 @@ bounded-held k PlusInfinity p h = refl
 bounded-held k MinusInfinity p h = refl
 bounded-held k NotANumber p h = refl
 
-neg-abs : (z : ℤ) → natAbs (negℤ z) ≡ natAbs z
-neg-abs (pos zero) = refl
-neg-abs (pos (suc n)) = refl
-neg-abs (negsuc n) = refl
-
 negated-bounded : (k : ℕ) (b : Decibels) → Bounded k b → Bounded k (negated b)
 unfolding Bounded
 negated-bounded k (Finite x) p = omega (arith, neg-abs x)
@@ -117,52 +111,15 @@ subtracted a b r e =
 
 -- ---- as the machine computes them, in an i64
 
-pub abs-mag : (z : ℤ) → natAbs z ≤ mag z + 1
-abs-mag (pos n) = omega arith
-abs-mag (negsuc n) = omega arith
-
-abbrev pub read64 : ℤ → ℤ
-read64 z = toZ w64 (ofZ w64 z)
-
-abbrev pub read32 : ℤ → ℤ
-read32 z = toZ w32 (ofZ w32 z)
-
-pub again64 : (z : ℤ) → mag z < 2 ^ 63 → read64 z ≡ z
-again64 z h = toZ-ofZ w64 z (record { sfits = h })
-
-pub again32 : (z : ℤ) → mag z < 2 ^ 31 → read32 z ≡ z
-again32 z h = toZ-ofZ w32 z (record { sfits = h })
-
--- an i32 in an i64
-pub widened : (z : ℤ) → mag z < 2 ^ 31 → read64 (read32 z) ≡ z
-widened z h = ap read64 (again32 z h) ∙ again64 z (omega arith)
-
-pub narrow : (z : ℤ) → mag z < 2 ^ 31 → SFits w64 (read32 z)
-narrow z h = subst (SFits w64) (sym (again32 z h)) (record { sfits = omega arith })
-
-pub wide-small : (z : ℤ) → mag z < 2 ^ 31 → natAbs (read64 (read32 z)) ≤ 2 ^ 31
-wide-small z h = subst (λ (y : ℤ). natAbs y ≤ 2 ^ 31) (sym (widened z h)) (omega (arith, abs-mag z))
-
 module _ (x y : ℤ) (hx : mag x < 2 ^ 31) (hy : natAbs y ≤ 2 ^ 31) where
   small-sum : mag (x +ℤ y) < 2 ^ 63
   small-sum = omega (arith, mag-abs (x +ℤ y), sum-abs x y, abs-mag x)
 
-  inner : read64 (read32 x) +ℤ read64 y ≡ x +ℤ y
+  inner : read64 (read x) +ℤ read64 y ≡ x +ℤ y
   inner = (λ i. widened x hx i +ℤ again64 y (omega (arith, mag-abs y)) i)
 
-  pub sum-fits : SFits w64 (read64 (read32 x) +ℤ read64 y)
+  pub sum-fits : SFits w64 (read64 (read x) +ℤ read64 y)
   sum-fits = subst (SFits w64) (sym inner) (record { sfits = small-sum })
 
-  pub sum-read : read64 (read64 (read32 x) +ℤ read64 y) ≡ x +ℤ y
+  pub sum-read : read64 (read64 (read x) +ℤ read64 y) ≡ x +ℤ y
   sum-read = ap read64 inner ∙ again64 (x +ℤ y) small-sum
-
-pub minus-fits : (y : ℤ) → mag y < 2 ^ 31 → SFits w64 (pos 0 -ℤ read64 (read32 y))
-minus-fits y h = subst (λ (z : ℤ). SFits w64 (pos 0 -ℤ z)) (sym (widened y h)) (record { sfits = omega (arith, mag-abs (pos 0 -ℤ y), difference-abs (pos 0) y, abs-mag y) })
-
-pub minus-read : (y : ℤ) → mag y < 2 ^ 31 → read64 (pos 0 -ℤ read64 (read32 y)) ≡ negℤ y
-minus-read y h =
-    ap (λ (z : ℤ). read64 (pos 0 -ℤ z)) (widened y h) ∙ ap read64 (+ℤ-idl (negℤ y))
-    ∙ again64 (negℤ y) (omega (arith, mag-abs (negℤ y), neg-abs y, abs-mag y))
-
-pub minus-small : (y : ℤ) → mag y < 2 ^ 31 → natAbs (read64 (pos 0 -ℤ read64 (read32 y))) ≤ 2 ^ 31
-minus-small y h = subst (λ (z : ℤ). natAbs z ≤ 2 ^ 31) (sym (minus-read y h)) (omega (arith, neg-abs y, abs-mag y))

@@ -1,17 +1,12 @@
 -- Document 01, "Volume steps and one channel": "rounded to whole with halves away from zero". Rust's `x.round() as i32`. Definitions only.
 use Prim.Native.Nat.{ℕ, zero, suc, _+_, _-_, _*_, _/_, _^_, min}
-use mathlib.Core.Bool.{Bool, true, false}
-use lib.IntN.{ℤ, pos, negℤ}
+use lib.IntN.{ℤ, pos}
 use lib.Ieee.{Float, nan, inf, fin, up, down}
+use Rattle.numbers.specs.Sign.{signed}
 
 -- a / c to the nearest whole number, halves up
 unfoldable pub halfUp : ℕ → ℕ → ℕ
 halfUp a c = (2 * a + c) / (2 * c)
-
--- n with a sign, held to the range of 32 bits
-unfoldable pub signed : Bool → ℕ → ℤ
-signed true n = negℤ (pos (min n (2 ^ 31)))
-signed false n = pos (min n (2 ^ 31 - 1))
 
 -- A float to the nearest whole number, halves away from zero. A finite one is m * up e / down e in size; an infinity is held to the end of the range.
 unfoldable pub roundOf : Float → ℤ

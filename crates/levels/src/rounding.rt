@@ -1,7 +1,7 @@
 // Rust's `x.round() as i32`, from a float's parts.
 ghost use mathlib.Core.Path.{_≡_};
 ghost use Prim.Native.Nat.{_<_, _^_};
-ghost use Rattle.levels.specs.Rounding.{wholePart, signed, roundOf};
+ghost use Rattle.levels.specs.Rounding.{wholePart, roundOf};
 use crate::parts::Parts;
 
 // The magnitude of a finite float's fields, to the nearest whole number, halves up; at most 2^31.
@@ -23,25 +23,6 @@ fn whole_part(exponent: u32, fraction: u32) -> u32
     0x8000_0000
 }
 
-// A magnitude with a sign, held to the range of an i32.
-fn with_sign(negative: bool, n: u32) -> i32
-    ensures { λ r. ⌜ r ≡ signed negative n ⌝ }
-{
-    if negative {
-        if n < 0x8000_0000 {
-            0 - (n as i32)
-        } else {
-            -2147483648
-        }
-    } else {
-        if n < 0x8000_0000 {
-            n as i32
-        } else {
-            2147483647
-        }
-    }
-}
-
 // To the nearest whole number, halves away from zero, held to the range of an i32; 0 for a not-a-number.
 pub fn round(x: f32) -> i32
     ensures { λ r. ⌜ r ≡ roundOf x ⌝ }
@@ -56,7 +37,7 @@ pub fn round(x: f32) -> i32
         return 0;
     };
     if exponent == 255 {
-        return with_sign(negative, 0x8000_0000);
+        return numbers::sign::with_sign(negative, 0x8000_0000);
     }
-    with_sign(negative, whole_part(exponent, fraction))
+    numbers::sign::with_sign(negative, whole_part(exponent, fraction))
 }

@@ -1,4 +1,5 @@
 pub mod Natural
 pub mod Refusal
+pub mod Sign
 pub mod First
 pub mod Listed

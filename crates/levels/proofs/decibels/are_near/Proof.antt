@@ -5,7 +5,7 @@ use lib.Dec.{leb}
 use lib.IntN.{ℤ, natAbs}
 use Rattle.levels.specs.declared.decibels.Decibels.{Decibels}
 use Rattle.levels.specs.Decibels.{nearDistance, near}
-use Rattle.levels.proofs.Sums.{again32}
+use Rattle.numbers.proofs.Signs.{again}
 use Rattle.levels.proofs.Nearness.{nearBy, near-is}
 use borrow.Author.Needs.{needs}
 use Rattle.levels.proofs.decibels.are_near.Statement.{statement}
@@ -36,7 +36,7 @@ returns : tie.Need-returns
 returns c =
     let k = c .before in
     let q = k .before .before .before in
-    c .small .ensures ∙ ap (λ (z : ℤ). leb (natAbs z) nearDistance) (again32 (k .before .apart .given .0 .0) (k .known-told .given .0 .1))
+    c .small .ensures ∙ ap (λ (z : ℤ). leb (natAbs z) nearDistance) (again (k .before .apart .given .0 .0) (k .known-told .given .0 .1))
     ∙ ap nearBy (sym (k .before .apart .given .1) ∙ q .difference .ensures .is) ∙ near-is (q .before .args .a) (q .before .args .b)
 
 returns-2 : tie.Need-returns-2

@@ -6,7 +6,8 @@ use native.Mathlib.Omega.{arith}
 use Rattle.levels.specs.declared.decibels.Decibels.the-variants.{Finite}
 use Rattle.levels.specs.declared.decibels.Decibels.{Decibels}
 use Rattle.levels.specs.Decibels.{held, plus, negated}
-use Rattle.levels.proofs.Sums.{narrow, held-infinity, plus-nan, subtracted, minus-fits, minus-read, minus-small}
+use Rattle.numbers.proofs.Signs.{narrow, minus-fits, minus-read, minus-small}
+use Rattle.levels.proofs.Sums.{held-infinity, plus-nan, subtracted}
 use borrow.Author.Needs.{needs}
 use Rattle.levels.proofs.decibels.difference.Statement.{statement}
 use Rattle.levels.proofs.decibels.difference.Tie as tie

@@ -4,7 +4,8 @@ use mir.Syntax.{w32, w64}
 use mir.Val.{SFits}
 use mir.ValLaws.{toZ-ofZ}
 use Rattle.levels.specs.Decibels.{held32}
-use Rattle.levels.proofs.Sums.{held-low, held-high, in-range, held-same, read64, again32}
+use Rattle.numbers.proofs.Signs.{read64, again}
+use Rattle.levels.proofs.Sums.{held-low, held-high, in-range, held-same}
 use Rattle.levels.proofs.decibels.hold.Statement.{statement}
 use Rattle.levels.proofs.decibels.hold.Tie as tie
 
@@ -25,7 +26,7 @@ returns-3 : tie.Need-returns-3
 returns-3 c =
     let z = read64 (c .before .before .args .sum) in
     let h = in-range z (c .before .if1 .left) (c .if2 .left) in
-    again32 z h ∙ sym (held-same z h) ∙ ap held32 (back (c .before .before))
+    again z h ∙ sym (held-same z h) ∙ ap held32 (back (c .before .before))
 
 pub hold-spec : {M : Type 1} → statement M
 hold-spec = tie.close (tie.spec returns returns-2 cast-result returns-3)

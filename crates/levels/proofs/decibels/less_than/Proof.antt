@@ -3,7 +3,7 @@ use mathlib.Core.Path.{_≡_, sym, ap, ap₂, _∙_}
 use lib.Signed.{ltZ}
 use Rattle.levels.specs.declared.decibels.Decibels.{Decibels}
 use Rattle.levels.specs.Decibels.{less}
-use Rattle.levels.proofs.Sums.{again32}
+use Rattle.numbers.proofs.Signs.{again}
 use borrow.Author.Needs.{needs}
 use Rattle.levels.proofs.decibels.less_than.Statement.{statement}
 use Rattle.levels.proofs.decibels.less_than.Tie as tie
@@ -49,7 +49,7 @@ unfolding less
 returns c =
     let x = c .before .before .before .before .a .given in
     let y = c .before .b .given in
-    (λ i. ltZ (again32 (x .0 .0) (c .before .before .before .known-told .given .0 .1) i) (again32 (y .0 .0) (c .known-told2 .given .0 .1) i)) ∙ sym (ap₂ less (x .1) (y .1))
+    (λ i. ltZ (again (x .0 .0) (c .before .before .before .known-told .given .0 .1) i) (again (y .0 .0) (c .known-told2 .given .0 .1) i)) ∙ sym (ap₂ less (x .1) (y .1))
 
 returns-2 : tie.Need-returns-2
 unfolding less

@@ -5,7 +5,8 @@ use mir.Val.{SFits}
 use Rattle.levels.specs.declared.decibels.Decibels.the-variants.{Finite}
 use Rattle.levels.specs.declared.decibels.Decibels.{Decibels}
 use Rattle.levels.specs.Decibels.{held32, held, plus}
-use Rattle.levels.proofs.Sums.{again32, narrow, sum-fits, sum-read}
+use Rattle.numbers.proofs.Signs.{again, narrow}
+use Rattle.levels.proofs.Sums.{sum-fits, sum-read}
 use borrow.Author.Needs.{needs}
 use Rattle.levels.proofs.decibels.plus_finite.Statement.{statement}
 use Rattle.levels.proofs.decibels.plus_finite.Tie as tie
@@ -36,7 +37,7 @@ unfolding held plus
 returns c =
     let k = c .before in
     let y = k .before .before .before .args .y in
-    ap Finite (again32 (c .hold .result) (c .hold .ok) ∙ c .hold .ensures ∙ ap held32 (sum-read (k .before .a .given .0 .0) y (k .known-told .given .0 .1) (k .before .before .before .pre)))
+    ap Finite (again (c .hold .result) (c .hold .ok) ∙ c .hold .ensures ∙ ap held32 (sum-read (k .before .a .given .0 .0) y (k .known-told .given .0 .1) (k .before .before .before .pre)))
     ∙ sym (ap (λ (a : Decibels). held (plus a (Finite y))) (k .before .a .given .1))
 
 returns-2 : tie.Need-returns-2

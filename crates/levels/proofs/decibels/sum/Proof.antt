@@ -6,7 +6,8 @@ use native.Mathlib.Omega.{arith}
 use Rattle.levels.specs.declared.decibels.Decibels.the-variants.{Finite}
 use Rattle.levels.specs.declared.decibels.Decibels.{Decibels}
 use Rattle.levels.specs.Decibels.{held, plus, negated}
-use Rattle.levels.proofs.Sums.{narrow, wide-small, held-infinity, plus-nan, summed, widened}
+use Rattle.numbers.proofs.Signs.{narrow, wide-small, widened}
+use Rattle.levels.proofs.Sums.{held-infinity, plus-nan, summed}
 use borrow.Author.Needs.{needs}
 use Rattle.levels.proofs.decibels.sum.Statement.{statement}
 use Rattle.levels.proofs.decibels.sum.Tie as tie

@@ -8,7 +8,7 @@ use lib.Ieee.{binary32, fits}
 use mir.Syntax.{w32}
 use mir.ValLaws.{toZ-ofZ}
 use borrow.Author.Needs.{needs}
-use Rattle.levels.specs.Rounding.{signed}
+use Rattle.numbers.specs.Sign.{signed}
 use Rattle.levels.proofs.Pattern.{Stands, stands}
 use Rattle.levels.proofs.Rounded.{at-nan, at-infinite, at-finite}
 use Rattle.levels.proofs.rounding.round.Statement.{statement}

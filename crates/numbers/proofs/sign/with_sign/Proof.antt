@@ -1,11 +1,11 @@
--- `levels::rounding::with_sign` meets its contract. Assumes nothing.
+-- `numbers::sign::with_sign` meets its contract. Assumes nothing.
 use mathlib.Core.Path.{_≡_, sym, ap, _∙_}
 use mathlib.Core.Bool.{Bool}
-use Rattle.levels.specs.Rounding.{signed}
-use Rattle.levels.proofs.Rounded.{minus-fits, minus-signed, plus-signed, minus-held, plus-held}
+use Rattle.numbers.specs.Sign.{signed}
+use Rattle.numbers.proofs.WithSign.{minus-fits, minus-signed, plus-signed, minus-held, plus-held}
 use borrow.Author.Needs.{needs}
-use Rattle.levels.proofs.rounding.with_sign.Statement.{statement}
-use Rattle.levels.proofs.rounding.with_sign.Tie as tie
+use Rattle.numbers.proofs.sign.with_sign.Statement.{statement}
+use Rattle.numbers.proofs.sign.with_sign.Tie as tie
 
 cast-result : tie.Need-cast-result
 cast-result c = search needs

@@ -1,0 +1,60 @@
+#!/usr/bin/env python3
+"""Levels by exact arithmetic: reads lines `D bits`, `H bits`, `L bits` and writes `COMMAND => ANSWER`.
+
+The answer is the whole number of thousandths that the definition's rule gives, worked out here over Python's whole numbers. Each finite answer d
+is then held against the exact bound 10^(d-1) <= v^p <= 10^(d+1), with v the exact fraction of the bits; a line that misses it is an error.
+"""
+import sys
+from fractions import Fraction
+from functools import cache
+from math import inf, isnan
+import struct
+
+OFFSET = 90310
+POWER = {"D": 20000, "H": 10000, "L": 20000}
+
+
+@cache
+def ten(k):
+    return 10 ** k
+
+
+def value(bits):
+    return struct.unpack(">f", bits.to_bytes(4, "big"))[0]
+
+
+def level(v, power):
+    """The level of an exact fraction above 1: 13 digits of its binary logarithm, then the decimal one, rounded up."""
+    whole = (v.numerator // v.denominator).bit_length() - 1
+    x = v.numerator * 2 ** 31 // (v.denominator * 2 ** whole)
+    digits = 0
+    for _ in range(13):
+        x = x * x >> 31
+        bit = x >> 32
+        x >>= bit
+        digits = 2 * digits + bit
+    return -(-power * (whole * 8192 + digits) * 643 // (8192 * 2136))
+
+
+def within_one(v, power, d):
+    top, bottom = v.numerator ** power, v.denominator ** power
+    return ten(max(d - 1, 0)) * bottom <= top <= ten(d + 1) * bottom
+
+
+def answer(command, bits):
+    x = value(bits)
+    if isnan(x):
+        return "nan"
+    if x == inf:
+        return "inf"
+    d = 0
+    if x > 1:
+        v = Fraction(x)
+        d = level(v, POWER[command])
+        assert within_one(v, POWER[command], d), f"{command} {bits:08x}: {d} is not within one thousandth"
+    return str(d - OFFSET if command == "L" else d)
+
+
+for line in sys.stdin:
+    command, bits = line.split()
+    print(f"{command} {bits} => {answer(command, int(bits, 16))}")
