@@ -17,6 +17,12 @@ pub enum Refusal {
     FrameLine,
 }
 
+// What a call answers that has nothing to say but that.
+pub enum Outcome {
+    Accepted,
+    Refused(Refusal),
+}
+
 pub fn number(cause: Refusal) -> u32
     ensures { λ r. ⌜ r ≡ numberOf cause ⌝ }
 {
