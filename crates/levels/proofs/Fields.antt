@@ -46,7 +46,7 @@ special s x t e = ap (λ (z : ℕ). ofFields binary32 s z t) e ∙ at255 s t
 differs : (a b : ℕ) → a < b → T (not (eqb a b))
 differs a b h = not-T (eqb a b) (λ t. lt-irrefl b (subst (λ (x : ℕ). x < b) (eqb→eq a b t) h))
 
-finite : (s : Bool) (x t : ℕ) → suc x < 255 → HasValue (ofFields binary32 s (suc x) t) s ((2 ^ 23 + t) * 2 ^ x) (2 ^ 149)
+pub finite : (s : Bool) (x t : ℕ) → suc x < 255 → HasValue (ofFields binary32 s (suc x) t) s ((2 ^ 23 + t) * 2 ^ x) (2 ^ 149)
 unfolding ofFields
 finite s x t h =
     subst (λ (v : Float). HasValue v s ((2 ^ 23 + t) * 2 ^ x) (2 ^ 149))
@@ -64,7 +64,7 @@ at-most s nan a c p l h = absurd h
 at-most s (inf r) a c p l h = absurd h
 at-most s (fin r m e) a c p l h = (h .0, le-of-mul-le-mul-right (le-trans (le-of-eq (h .1)) (le-trans (mul-le-mul-right (down e) l) (le-of-eq (mul-comm c (down e))))) p)
 
-zeroth : (s : Bool) (t : ℕ) → HasValue (ofFields binary32 s 0 t) s (t * 2 ^ 0) (2 ^ 149)
+pub zeroth : (s : Bool) (t : ℕ) → HasValue (ofFields binary32 s 0 t) s (t * 2 ^ 0) (2 ^ 149)
 unfolding ofFields
 zeroth s t = odd-sign 24 s t 0 149
 

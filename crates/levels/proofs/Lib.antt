@@ -1,6 +1,7 @@
 pub mod Pattern
 pub mod Fields
 pub mod Unsigned
+pub mod BitOrder
 pub mod Whole
 pub mod Rounded
 pub mod Digits

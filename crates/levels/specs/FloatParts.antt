@@ -21,3 +21,9 @@ unfoldable pub magnitudeOf : Float → Float
 magnitudeOf nan = nan
 magnitudeOf (inf s) = inf false
 magnitudeOf (fin s m e) = fin false m e
+
+-- the bit pattern without its sign bit; 0 for a not-a-number
+unfoldable pub magnitudeBitsOf : Float → ℕ
+magnitudeBitsOf nan = 0
+magnitudeBitsOf (inf s) = toBits binary32 (inf s) % 2 ^ 31
+magnitudeBitsOf (fin s m e) = toBits binary32 (fin s m e) % 2 ^ 31

@@ -6,3 +6,4 @@ pub mod First
 pub mod Listed
 pub mod Ranges
 pub mod Loops
+pub mod Arrays

@@ -1,12 +1,13 @@
 -- `withinOf` by the tests of its number, and what its answers tell. Assumes nothing.
 use mathlib.Core.Path.{_≡_, refl}
 use mathlib.Core.Bool.{Bool, true, false, _&&_}
+use mathlib.Core.Logic.{_⊎_, inl, inr}
 use Prim.Native.Nat.{ℕ, _≤_, _<_}
 use native.Mathlib.Omega.{arith}
 use lib.Dec.{leb}
 use lib.IntN.{ℤ, pos, negsuc, natAbs}
 use lib.Signed.{ltZ}
-use borrow.Author.Tests.{le-leb, lt-leb, ltb-true, leb-true}
+use borrow.Author.Tests.{le-leb, lt-leb, ltb-true, leb-true, leb-false}
 use Rattle.numbers.specs.declared.natural.Natural.the-variants.{Number, Outside}
 use Rattle.numbers.specs.Natural.{numberIf, withinOf}
 use Rattle.numbers.proofs.Signs.{clash}
@@ -51,3 +52,13 @@ pub told : (low high : ℕ) (x : ℤ) (n : ℕ) → withinOf low high x ≡ Numb
 unfolding withinOf
 told low high (pos m) n e = kept low high m n (leb low m) (leb m high) refl refl e
 told low high (negsuc m) n e = let z : _≡_ {A = ℕ} 0 1 = cc in absurd (omega arith)
+
+left : (low high m : ℕ) (a b : Bool) → leb low m ≡ a → leb m high ≡ b → numberIf (a && b) m ≡ Outside → (m < low) ⊎ (high < m)
+left low high m true true p q e = let z : _≡_ {A = ℕ} 0 1 = cc in absurd (omega arith)
+left low high m true false p q e = inr (leb-false m high q)
+left low high m false b p q e = inl (leb-false low m p)
+
+-- a natural number that is outside lies below or above
+pub outside : (low high m : ℕ) → withinOf low high (pos m) ≡ Outside → (m < low) ⊎ (high < m)
+unfolding withinOf
+outside low high m e = left low high m (leb low m) (leb m high) refl refl e

@@ -1,0 +1,9 @@
+pub mod Folds
+pub mod Steps
+pub mod PeakBits
+pub mod Places
+pub mod Records
+pub mod Answers
+pub mod Sums
+pub mod Pushes
+pub mod Edges

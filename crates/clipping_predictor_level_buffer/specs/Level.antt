@@ -1,0 +1,33 @@
+-- Document 01, "Levels": "Each frame and channel yields a record of two floats, mean square and peak. .. squares are summed from 0 in sample order, then divided by the sample count.
+-- Peak starts at 0 and takes larger magnitudes; samples that are not a number are passed over there but spoil the mean." Definitions only.
+use mathlib.Core.Bool.{Bool, true, false, _&&_}
+use mathlib.Core.List.{List, map}
+use Prim.Native.Nat.{ℕ}
+use lib.Dec.{leb}
+use lib.Ieee.{Float, binary32, mul}
+use lib.ListN.{length}
+use Rattle.numbers.specs.declared.refusal.Refusal.the-variants.{FrameSize}
+use Rattle.levels.specs.FloatParts.{magnitudeOf}
+use Rattle.clipping_predictor_level_buffer.specs.declared.level.Level.{Level}
+use Rattle.clipping_predictor_level_buffer.specs.declared.level.Measured as Measured
+use Rattle.clipping_predictor_level_buffer.specs.declared.level.Measured.{Measured}
+use Rattle.clipping_predictor_level_buffer.specs.declared.level.Measured.the-variants.{Refused}
+use Rattle.clipping_predictor_level_buffer.specs.Statistics.{mean, largest}
+
+-- "samples per channel not 1 to 480"
+abbrev pub maxSamplesPerChannel : ℕ
+maxSamplesPerChannel = 480
+
+abbrev pub squareOf : Float → Float
+squareOf x = mul binary32 x x
+
+-- the level of a frame, by the source's `analyze`
+unfoldable pub levelOf : List Float → Level
+levelOf samples = record { average = mean (map squareOf samples); max = largest (map magnitudeOf samples) }
+
+abbrev pub measuredIf : Bool → List Float → Measured
+measuredIf true samples = Measured.the-variants.Level (levelOf samples)
+measuredIf false samples = Refused FrameSize
+
+unfoldable pub measureOf : List Float → Measured
+measureOf samples = measuredIf (leb 1 (length samples) && leb (length samples) maxSamplesPerChannel) samples
