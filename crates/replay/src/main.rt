@@ -4,60 +4,26 @@
 //     W bits                            rounding to whole
 //     A bits                            the magnitude
 //     D bits   H bits   L bits          d, h, and d against full scale, in thousandths of a dB
-ghost use Prim.Native.Nat.{_≤_, _+_};
-ghost use lib.ListN.{length};
-use gain_map::VolumeUpdate;
+//     G capacity   g mean peak   z      a ring: made, pushed, emptied
+//     m delay items                     its metrics
+//     P channels on mode window reference delay threshold margin   a predictor: made
+//     F floats   X                      a frame of all channels; emptied
+//     E channel level step least most   an estimate, with an `n` behind it where it is near
 use libc::STDIN_FILENO;
 
 mod print;
+mod session;
 mod text;
 
-fn volume_step(s: &[u8], at: usize) {
-    let change = text::decimal(s, at);
-    let volume = text::decimal(s, change.next);
-    let minimum = text::decimal(s, volume.next);
-    let maximum = text::decimal(s, minimum.next);
-    let answer = gain_map::compute_volume_update(
-        text::signed(change),
-        text::signed(volume),
-        text::signed(minimum),
-        text::signed(maximum),
-    );
-    match answer {
-        VolumeUpdate::Volume(v) => print::number(v),
-        VolumeUpdate::Refused(cause) => print::refusal(cause),
-    }
-}
-
-// The answer to one line, by its first letter.
-fn answer(s: &[u8]) {
-    if s.len() < 2 {
-        return;
-    }
-    let letter = s[0];
-    match letter {
-        b'S' => volume_step(s, 2),
-        b'W' => print::number(levels::rounding::round(float(s))),
-        b'A' => print::float(levels::parts::magnitude(float(s))),
-        b'D' => print::decibels(levels::level::peak_level(float(s))),
-        b'H' => print::decibels(levels::level::mean_square_level(float(s))),
-        b'L' => print::decibels(levels::level::float_s16_to_dbfs(float(s))),
-        _ => print::text(b"unknown"),
-    }
-}
-
-fn float(s: &[u8]) -> f32 {
-    levels::bits::from_bits(text::bits(s, 2))
-}
-
 fn run(s: &[u8]) {
+    let mut session = session::fresh();
     let mut at = 0;
     while at < s.len() {
         let end = text::line_end(s, at);
         let line = &s[at..end];
         print::text(line);
         print::text(b" => ");
-        answer(line);
+        session = session::answer(session, line);
         print::text(b"\n");
         if end >= s.len() {
             break;

@@ -106,3 +106,27 @@ pub fn signed(f: Field) -> i32 {
     }
     numbers::sign::with_sign(f.negative, f.size as u32)
 }
+
+// The floats that follow from `at` on, each as eight hexadecimal digits with no gap.
+pub fn floats(s: &[u8], at: usize, out: &mut [f32]) -> usize
+    ensures { λ r. ⌜ r ≤ length (now (out .exit)) ⌝ }
+{
+    let mut n = 0usize;
+    let mut i = at;
+    while n < 3840 {
+        if out.len() <= n {
+            break;
+        }
+        if s.len() < 8 {
+            break;
+        }
+        if s.len() - 8 < i {
+            break;
+        }
+        let end = i + 8;
+        out[n] = levels::bits::from_bits(bits(&s[i..end], 0));
+        n += 1;
+        i = end;
+    }
+    n
+}

@@ -1,15 +1,20 @@
--- `replay::run` goes from line to line within the text. Assumes nothing.
+-- `replay::run` goes from line to line within the text, and keeps the session in good order. Assumes nothing.
 use Prim.Native.Nat.{_≤_, _<_, _-_, _^_}
+use native.Mathlib.Omega.{arith}
 use lib.ListN.{length}
 use borrow.Author.Needs.{needs}
+use Rattle.replay.specs.Session.{Good}
 use Rattle.replay.proofs.run.Statement.{statement}
 use Rattle.replay.proofs.run.Tie as tie
 
 abbrev Inv-loop : tie.InvT-loop
-Inv-loop s at₀ t5 t6 at = at ≤ length s
+Inv-loop s session₀ at₀ t6 t7 session at = (at ≤ length s) × Good session
 
 abbrev μ-loop : tie.MeasureT-loop
-μ-loop s at₀ t5 t6 at = length s - at
+μ-loop s session₀ at₀ t6 t7 session at = length s - at
+
+fresh-requires : tie.Need-fresh-requires Inv-loop μ-loop
+fresh-requires c κs = search needs
 
 loop-holds : tie.Need-loop-holds Inv-loop μ-loop
 loop-holds c = search needs
@@ -65,6 +70,7 @@ run-spec =
     (tie.spec
     Inv-loop
     μ-loop
+    fresh-requires
     loop-holds
     line-end-requires
     sub-line

@@ -1,0 +1,10 @@
+pub mod Paths
+pub mod Signed
+pub mod Windows
+pub mod Given
+pub mod Frames
+pub mod Rings
+pub mod Drops
+pub mod Ceilings
+pub mod Starred
+pub mod Newest

@@ -1,0 +1,50 @@
+-- The estimate of a ring's records, by the tests that lead there. Assumes nothing.
+use mathlib.Core.Path.{_≡_, refl, sym, ap, _∙_}
+use mathlib.Core.Bool.{Bool, true, false, _&&_}
+use mathlib.Core.List.{List}
+use Prim.Native.Nat.{ℕ, _+_, _≤_, _<_}
+use native.Mathlib.Omega.{arith}
+use lib.Dec.{leb}
+use borrow.Author.Tests.{le-leb, lt-leb}
+use Rattle.numbers.specs.declared.refusal.Refusal.the-variants.{RingRange}
+use Rattle.clipping_predictor_level_buffer.specs.declared.level.Level.{Level}
+use Rattle.clipping_predictor_level_buffer.specs.declared.Metrics.{Metrics}
+use Rattle.clipping_predictor_level_buffer.specs.declared.Metrics.the-variants.{Refused}
+use Rattle.clipping_predictor_level_buffer.specs.Metrics.{metricsIf, foundIf, partialMetrics}
+use Rattle.clipping_predictor.specs.declared.settings.Settings.{Settings}
+use Rattle.clipping_predictor.specs.declared.modes.Asked.{Asked}
+use Rattle.clipping_predictor.specs.Tree.{Tree, leaf}
+use Rattle.clipping_predictor.specs.Estimate.{capacityIf, capacityOf, windowsTree, unlessLow, estimateTree}
+
+-- a ring with no place has no metrics
+none-kept : (records : List Level) (delay n : ℕ) → 1 ≤ n → partialMetrics 0 records delay n ≡ Refused RingRange
+unfolding partialMetrics
+none-kept records delay n h = rw (le-leb 1 n h, lt-leb (delay + n) 0 (omega arith))
+
+low-leaf : (b : Bool) → unlessLow b (leaf 0) ≡ leaf 0
+low-leaf true = refl
+low-leaf false = refl
+
+refused-windows : (s : Settings) (a : Asked) (m r : Metrics) → m ≡ Refused RingRange → windowsTree s a m r ≡ leaf 0
+unfolding windowsTree
+refused-windows s a m r e = ap (λ (k : Metrics). windowsTree s a k r) e
+
+module _ (s : Settings) (records : List Level) (a : Asked) where
+  pub off : s .enabled ≡ false → 1 ≤ s .window → estimateTree s records a ≡ leaf 0
+  unfolding estimateTree
+  off e h =
+      ap (unlessLow (leb (a .level) (a .least)))
+      (refused-windows s a _ (partialMetrics (capacityOf s) records (s .delay) (s .reference))
+      (ap (λ (b : Bool). partialMetrics (capacityIf b (s .delay + s .reference)) records 0 (s .window)) e ∙ none-kept records 0 (s .window) h))
+      ∙ low-leaf (leb (a .level) (a .least))
+
+  pub low : a .level ≤ a .least → estimateTree s records a ≡ leaf 0
+  unfolding estimateTree
+  low h = rw (le-leb (a .level) (a .least) h)
+
+  pub on : s .enabled ≡ true → a .least < a .level
+      → estimateTree s records a ≡ windowsTree s a (partialMetrics (s .delay + s .reference) records 0 (s .window)) (partialMetrics (s .delay + s .reference) records (s .delay) (s .reference))
+  unfolding estimateTree
+  on e h =
+      (λ i. unlessLow (lt-leb (a .level) (a .least) h i) (windowsTree s a (partialMetrics (capacityOf s) records 0 (s .window)) (partialMetrics (capacityOf s) records (s .delay) (s .reference))))
+      ∙ ap (λ (b : Bool). windowsTree s a (partialMetrics (capacityIf b (s .delay + s .reference)) records 0 (s .window)) (partialMetrics (capacityIf b (s .delay + s .reference)) records (s .delay) (s .reference))) e

@@ -1,0 +1,5 @@
+pub mod Tree
+pub mod Settings
+pub mod Estimate
+pub mod GoodFor
+pub mod Predictor

@@ -1,0 +1,182 @@
+-- Document 01, "Ring and predictors": a predictor as its settings and, for each channel, the list of its stored records, newest first; and its calls. Definitions only.
+use mathlib.Core.Path.{_≡_}
+use Prim.Native.Nat.{ℕ, zero, suc, _+_, _-_, _*_, _≤_, _<_}
+use mathlib.Core.Bool.{Bool, true, false, _&&_}
+use mathlib.Core.List.{List, [], _∷_, map}
+use lib.Dec.{leb, eqb}
+use lib.IntN.{ℤ, pos}
+use lib.Ieee.{Float}
+use lib.ListN.{length, take, drop, getD, replicate}
+use Rattle.numbers.specs.Listed.{listed}
+use Rattle.numbers.specs.declared.natural.Natural.{Natural}
+use Rattle.numbers.specs.declared.natural.Natural.the-variants.{Number, Outside}
+use Rattle.numbers.specs.declared.refusal.Outcome.{Outcome}
+use Rattle.numbers.specs.declared.refusal.Outcome.the-variants.{Accepted, Refused}
+use Rattle.numbers.specs.declared.refusal.Refusal.{Refusal}
+use Rattle.numbers.specs.declared.refusal.Refusal.the-variants.{ChannelCount, InputVolume, FrameSize, EstimateRange}
+use Rattle.numbers.specs.Natural.{withinOf}
+use Rattle.clipping_predictor_level_buffer.specs.declared.level.Level.{Level}
+use Rattle.clipping_predictor_level_buffer.specs.declared.ClippingPredictorLevelBuffer.{ClippingPredictorLevelBuffer}
+use Rattle.clipping_predictor_level_buffer.specs.Level.{maxSamplesPerChannel, levelOf}
+use Rattle.clipping_predictor_level_buffer.specs.Ring.{stored, push}
+use Rattle.clipping_predictor.specs.declared.settings.ClippingPredictorMode.the-variants.{AdaptiveStepClippingPeakPrediction}
+use Rattle.clipping_predictor.specs.declared.settings.ClippingPredictorConfig.{ClippingPredictorConfig}
+use Rattle.clipping_predictor.specs.declared.settings.Settings.{Settings}
+use Rattle.clipping_predictor.specs.declared.settings.Checked.{Checked}
+use Rattle.clipping_predictor.specs.declared.settings.Checked.the-variants as Checked
+use Rattle.clipping_predictor.specs.declared.modes.Asked.{Asked}
+use Rattle.clipping_predictor.specs.declared.modes.Estimated.{Estimated}
+use Rattle.clipping_predictor.specs.declared.ClippingPredictor.{ClippingPredictor}
+use Rattle.clipping_predictor.specs.declared.Created.{Created}
+use Rattle.clipping_predictor.specs.declared.Analyzed.{Analyzed}
+use Rattle.clipping_predictor.specs.declared.Arguments.{Arguments}
+use Rattle.clipping_predictor.specs.declared.Arguments.the-variants as Arguments
+use Rattle.clipping_predictor.specs.declared.Estimate.{Estimate}
+use Rattle.clipping_predictor.specs.declared.Estimate.the-variants as Estimate
+use Rattle.clipping_predictor.specs.Settings.{settingsOf}
+use Rattle.clipping_predictor.specs.Settings as Settings
+use Rattle.clipping_predictor.specs.Estimate.{capacityOf, estimateTree, estimated}
+use Rattle.clipping_predictor.specs.GoodFor.{GoodFor}
+
+-- "channel count not 1 to 8" is refused
+abbrev pub maxChannels : ℕ
+maxChannels = 8
+
+-- a predictor as a value: rings stand in it as the lists that they store
+pub record Predictor : Type 0 where
+  pub settings : Settings
+  pub rings : List (List Level)
+
+-- what an array of rings has past its end: no channel's ring lies there
+abbrev pub noRing : ClippingPredictorLevelBuffer
+noRing = record { «data» = []; tail = 0; size = 0; capacity = 0 }
+
+abbrev pub ringAt : ClippingPredictor → ℕ → ClippingPredictorLevelBuffer
+ringAt p channel = getD (p .rings) channel noRing
+
+unfoldable pub viewOf : ClippingPredictor → Predictor
+viewOf p = record { settings = p .settings; rings = listed (λ c. stored (ringAt p c)) (p .channels) }
+
+-- good order: what the making establishes and every call hands back
+pub record Good (p : ClippingPredictor) : Type 0 where
+  pub settings : Settings.Good (p .settings)
+  pub channels-low : 1 ≤ p .channels
+  pub channels-high : p .channels ≤ maxChannels
+  pub places : length (p .rings) ≡ maxChannels
+  pub each : (channel : ℕ) → channel < p .channels → GoodFor (p .settings) (ringAt p channel)
+
+-- ---- making: causes 1 and 7
+
+-- what stands beside a refusal: a predictor of one channel that is off
+abbrev pub unmadeSettings : Settings
+unmadeSettings = record { enabled = false; mode = AdaptiveStepClippingPeakPrediction; window = 5; reference = 5; delay = 5; threshold = pos 0; margin = pos 0 }
+
+abbrev pub emptyPredictor : Settings → ℕ → Predictor
+emptyPredictor s channels = record { settings = s; rings = replicate channels [] }
+
+pub record Making : Type 0 where
+  pub answer : Outcome
+  pub predictor : Predictor
+
+unfoldable pub madeOf : Natural → Checked → Making
+madeOf Outside settings = record { answer = Refused ChannelCount; predictor = emptyPredictor unmadeSettings 1 }
+madeOf (Number channels) (Checked.Refused cause) = record { answer = Refused cause; predictor = emptyPredictor unmadeSettings 1 }
+madeOf (Number channels) (Checked.InOrder s) = record { answer = Accepted; predictor = emptyPredictor s channels }
+
+unfoldable pub makingOf : ℤ → ClippingPredictorConfig → Making
+makingOf channels config = madeOf (withinOf 1 maxChannels channels) (settingsOf config)
+
+pub record CreatedOf (channels : ℤ) (config : ClippingPredictorConfig) (r : Created) : Type 0 where
+  pub good : Good (r .predictor)
+  pub answer : r .answer ≡ makingOf channels config .answer
+  pub view : viewOf (r .predictor) ≡ makingOf channels config .predictor
+
+-- ---- what the private functions of the making say
+
+pub record Fresh (channels : ℕ) (s : Settings) (r : ClippingPredictor) : Type 0 where
+  pub good : Good r
+  pub view : viewOf r ≡ emptyPredictor s channels
+
+pub record RefusedWith (cause : Refusal) (r : Created) : Type 0 where
+  pub good : Good (r .predictor)
+  pub answer : r .answer ≡ Refused cause
+  pub view : viewOf (r .predictor) ≡ emptyPredictor unmadeSettings 1
+
+-- ---- frames
+
+-- "the part that starts at channel × samples"
+abbrev pub partOf : ℕ → List Float → ℕ → List Float
+partOf samples frame channel = take samples (drop (channel * samples) frame)
+
+abbrev pub levelsOf : ℕ → ℕ → List Float → List Level
+levelsOf channels samples frame = listed (λ c. levelOf (partOf samples frame c)) channels
+
+-- each channel's level enters its ring
+unfoldable pub pushEach : ℕ → List Level → List (List Level) → List (List Level)
+pushEach capacity levels [] = []
+pushEach capacity [] (r ∷ rings) = r ∷ rings
+pushEach capacity (l ∷ levels) (r ∷ rings) = push capacity l r ∷ pushEach capacity levels rings
+
+-- cause 9: "samples per channel not 1 to 480, or lent samples not channels × that"
+unfoldable pub frameFits : ℕ → ℕ → List Float → Bool
+frameFits channels samples frame = leb 1 samples && (leb samples maxSamplesPerChannel && eqb (length frame) (channels * samples))
+
+abbrev pub outcomeIf : Bool → Outcome
+outcomeIf true = Accepted
+outcomeIf false = Refused FrameSize
+
+abbrev pub enteredIf : Bool → ℕ → List Float → Predictor → Predictor
+enteredIf true samples frame p = record { settings = p .settings; rings = pushEach (capacityOf (p .settings)) (levelsOf (length (p .rings)) samples frame) (p .rings) }
+enteredIf false samples frame p = p
+
+-- what the loop over the channels says of a predictor that is on
+pub record Entered (p : ClippingPredictor) (samples : ℕ) (frame : List Float) (r : ClippingPredictor) : Type 0 where
+  pub good : Good r
+  pub settings : r .settings ≡ p .settings
+  pub view : viewOf r ≡ enteredIf true samples frame (viewOf p)
+
+-- a refused frame hands the very predictor back
+pub record AnalyzedOf (p : ClippingPredictor) (samples : ℕ) (frame : List Float) (r : Analyzed) : Type 0 where
+  pub good : Good (r .predictor)
+  pub answer : r .answer ≡ outcomeIf (frameFits (p .channels) samples frame)
+  pub view : viewOf (r .predictor) ≡ enteredIf (frameFits (p .channels) samples frame) samples frame (viewOf p)
+  pub same : frameFits (p .channels) samples frame ≡ false → r .predictor ≡ p
+
+-- "Reset empties it."
+abbrev pub emptied : Predictor → Predictor
+emptied p = record { settings = p .settings; rings = map (λ r. []) (p .rings) }
+
+pub record ResetOf (p r : ClippingPredictor) : Type 0 where
+  pub good : Good r
+  pub view : viewOf r ≡ emptied (viewOf p)
+
+-- ---- estimates: causes 8 and 10
+
+abbrev pub givenIf : Bool → ℕ → Asked → Arguments
+givenIf true channel a = Arguments.Given channel a
+givenIf false channel a = Arguments.Refused EstimateRange
+
+unfoldable pub given : Natural → Natural → Natural → Natural → Natural → Arguments
+given Outside channel step least most = Arguments.Refused InputVolume
+given (Number level) Outside step least most = Arguments.Refused EstimateRange
+given (Number level) (Number channel) Outside least most = Arguments.Refused EstimateRange
+given (Number level) (Number channel) (Number step) Outside most = Arguments.Refused EstimateRange
+given (Number level) (Number channel) (Number step) (Number least) Outside = Arguments.Refused EstimateRange
+given (Number level) (Number channel) (Number step) (Number least) (Number most) =
+    givenIf (leb least most && leb level most) channel (record { level = level; step = step; least = least; most = most })
+
+unfoldable pub argumentsOf : ℕ → ℤ → ℤ → ℤ → ℤ → ℤ → Arguments
+argumentsOf channels channel level step least most =
+    given (withinOf 0 255 level) (withinOf 0 (channels - 1) channel) (withinOf 1 255 step) (withinOf 0 255 least) (withinOf 0 255 most)
+
+-- "the drop is the step if above 0"
+abbrev pub dropOr : ℕ → Bool → Estimate
+dropOr zero near = Estimate.Nothing near
+dropOr (suc n) near = Estimate.Drop (pos (suc n)) near
+
+abbrev pub answered : Estimated → Estimate
+answered e = dropOr (e .drop) (e .near)
+
+unfoldable pub estimateOf : Predictor → Arguments → Estimate
+estimateOf p (Arguments.Refused cause) = Estimate.Refused cause
+estimateOf p (Arguments.Given channel a) = answered (estimated (estimateTree (p .settings) (getD (p .rings) channel []) a))

@@ -1,0 +1,277 @@
+// Frame-wise clipping prediction and clipped level step estimation. Ports clipping_predictor.rs: `Box<dyn ClippingPredictor>` is a mode beside the state,
+// and `&mut self` a predictor by value that is handed back.
+ghost use mathlib.Core.Path.{_≡_};
+ghost use mathlib.Core.Bool.{true};
+ghost use Prim.Native.Nat.{_*_, _≤_};
+ghost use lib.ListN.{length};
+ghost use Rattle.clipping_predictor_level_buffer.specs.Level.{maxSamplesPerChannel, levelOf};
+ghost use Rattle.clipping_predictor_level_buffer.specs.Ring.{Pushed};
+ghost use Rattle.clipping_predictor_level_buffer.specs.Ring.{Good as GoodRing};
+ghost use Rattle.clipping_predictor.specs.Settings.{Good as GoodSettings};
+ghost use Rattle.clipping_predictor.specs.Predictor.{maxChannels, Good, viewOf, Fresh, RefusedWith, CreatedOf, frameFits, Entered, AnalyzedOf, ResetOf, argumentsOf, dropOr, estimateOf};
+use crate::modes::Asked;
+use crate::settings::Checked;
+use crate::settings::ClippingPredictorConfig;
+use crate::settings::ClippingPredictorMode;
+use crate::settings::Settings;
+use clipping_predictor_level_buffer::ClippingPredictorLevelBuffer;
+use clipping_predictor_level_buffer::level::MAX_SAMPLES_PER_CHANNEL;
+use clipping_predictor_level_buffer::level::Measured;
+use numbers::natural::Natural;
+use numbers::refusal::Outcome;
+use numbers::refusal::Refusal;
+
+pub mod modes;
+pub mod settings;
+
+// The most channels that a predictor has.
+pub const MAX_CHANNELS: usize = 8;
+
+// One ring for each channel; those past the channel count are not used.
+#[repr(C)]
+pub struct ClippingPredictor {
+    pub rings: [ClippingPredictorLevelBuffer; MAX_CHANNELS],
+    pub channels: usize,
+    pub settings: Settings,
+}
+
+// What making answers. A refusal has a predictor of one channel beside it that is off.
+pub struct Created {
+    pub answer: Outcome,
+    pub predictor: ClippingPredictor,
+}
+
+// What a frame answers.
+pub struct Analyzed {
+    pub answer: Outcome,
+    pub predictor: ClippingPredictor,
+}
+
+// What an estimate is asked with, in range, or why it is refused.
+pub enum Arguments {
+    Given(usize, Asked),
+    Refused(Refusal),
+}
+
+// By how much the level is to fall, if at all, and whether the estimate is near.
+pub enum Estimate {
+    Refused(Refusal),
+    Nothing(bool),
+    Drop(i32, bool),
+}
+
+// A predictor with empty rings.
+fn fresh(channels: usize, settings: Settings) -> ClippingPredictor
+    requires { ⌜ GoodSettings settings × (1 ≤ channels) × (channels ≤ maxChannels) ⌝ }
+    ensures { λ r. ⌜ Fresh channels settings r ⌝ }
+{
+    let made = ClippingPredictorLevelBuffer::new((settings.delay + settings.reference) as i32);
+    let ring = made.ring;
+    let rings = [ring; MAX_CHANNELS];
+    ClippingPredictor {
+        rings,
+        channels,
+        settings,
+    }
+}
+
+fn refused(cause: Refusal) -> Created
+    ensures { λ r. ⌜ RefusedWith cause r ⌝ }
+{
+    let settings = Settings {
+        enabled: false,
+        mode: ClippingPredictorMode::AdaptiveStepClippingPeakPrediction,
+        window: 5,
+        reference: 5,
+        delay: 5,
+        threshold: 0,
+        margin: 0,
+    };
+    Created {
+        answer: Outcome::Refused(cause),
+        predictor: fresh(1, settings),
+    }
+}
+
+pub fn create_clipping_predictor(num_channels: i32, config: ClippingPredictorConfig) -> Created
+    ensures { λ r. ⌜ CreatedOf «num_channels» config r ⌝ }
+{
+    let count = numbers::natural::within(1, MAX_CHANNELS, num_channels);
+    let Natural::Number(channels) = count else {
+        return refused(Refusal::ChannelCount);
+    };
+    let checked = settings::check(config);
+    match checked {
+        Checked::Refused(cause) => refused(cause),
+        Checked::InOrder(settings) => Created {
+            answer: Outcome::Accepted,
+            predictor: fresh(channels, settings),
+        },
+    }
+}
+
+// A channel's level enters its ring.
+fn pushed(ring: ClippingPredictorLevelBuffer, part: &[f32]) -> ClippingPredictorLevelBuffer
+    requires { ⌜ GoodRing ring × (1 ≤ length (now part)) × (length (now part) ≤ maxSamplesPerChannel) ⌝ }
+    ensures { λ r. ⌜ Pushed ring (levelOf (now (part .entry))) r ⌝ }
+{
+    let measured = clipping_predictor_level_buffer::level::measure(part);
+    match measured {
+        Measured::Level(level) => ring.push(level),
+        Measured::Refused(_) => ring,
+    }
+}
+
+// A byte as the answer's number.
+fn answer_of(drop: u8, near: bool) -> Estimate
+    ensures { λ r. ⌜ r ≡ dropOr drop near ⌝ }
+{
+    if drop == 0 {
+        return Estimate::Nothing(near);
+    }
+    Estimate::Drop(drop as i32, near)
+}
+
+fn frame_fits(channels: usize, samples: usize, frame: &[f32]) -> bool
+    requires { ⌜ channels ≤ maxChannels ⌝ }
+    ensures { λ r. ⌜ r ≡ frameFits channels samples (now (frame .entry)) ⌝ }
+{
+    if samples < 1 {
+        return false;
+    }
+    if MAX_SAMPLES_PER_CHANNEL < samples {
+        return false;
+    }
+    frame.len() == channels * samples
+}
+
+// What an estimate is asked with, each number in its range.
+fn arguments_in_range(
+    channels: usize,
+    channel: i32,
+    level: i32,
+    default_step: i32,
+    min_mic_level: i32,
+    max_mic_level: i32,
+) -> Arguments
+    requires { ⌜ 1 ≤ channels ⌝ }
+    ensures { λ r. ⌜ r ≡ argumentsOf channels channel level «default_step» «min_mic_level» «max_mic_level» ⌝ }
+{
+    let first = numbers::natural::within(0, 255, level);
+    let Natural::Number(here) = first else {
+        return Arguments::Refused(Refusal::InputVolume);
+    };
+    let second = numbers::natural::within(0, channels - 1, channel);
+    let Natural::Number(place) = second else {
+        return Arguments::Refused(Refusal::EstimateRange);
+    };
+    let third = numbers::natural::within(1, 255, default_step);
+    let Natural::Number(step) = third else {
+        return Arguments::Refused(Refusal::EstimateRange);
+    };
+    let fourth = numbers::natural::within(0, 255, min_mic_level);
+    let Natural::Number(least) = fourth else {
+        return Arguments::Refused(Refusal::EstimateRange);
+    };
+    let fifth = numbers::natural::within(0, 255, max_mic_level);
+    let Natural::Number(most) = fifth else {
+        return Arguments::Refused(Refusal::EstimateRange);
+    };
+    if most < least {
+        return Arguments::Refused(Refusal::EstimateRange);
+    }
+    if most < here {
+        return Arguments::Refused(Refusal::EstimateRange);
+    }
+    Arguments::Given(
+        place,
+        Asked {
+            level: here as u8,
+            step: step as u8,
+            least: least as u8,
+            most: most as u8,
+        },
+    )
+}
+
+impl ClippingPredictor {
+    fn entered(self, samples: usize, frame: &[f32]) -> ClippingPredictor
+        requires { ⌜ Good self × (self .settings .enabled ≡ true) × (frameFits (self .channels) samples (now frame) ≡ true) ⌝ }
+        ensures { λ r. ⌜ Entered self samples (now (frame .entry)) r ⌝ }
+    {
+        let channels = self.channels;
+        let mut p = self;
+        for c in 0..channels {
+            let start = c * samples;
+            let end = start + samples;
+            let ring = p.rings[c];
+            p.rings[c] = pushed(ring, &frame[start..end]);
+        }
+        p
+    }
+
+    // A frame of all channels, one after another, each of `samples_per_channel` samples.
+    pub fn analyze(self, samples_per_channel: usize, frame: &[f32]) -> Analyzed
+        requires { ⌜ Good self ⌝ }
+        ensures { λ r. ⌜ AnalyzedOf self «samples_per_channel» (now (frame .entry)) r ⌝ }
+    {
+        if !frame_fits(self.channels, samples_per_channel, frame) {
+            return Analyzed {
+                answer: Outcome::Refused(Refusal::FrameSize),
+                predictor: self,
+            };
+        }
+        if !self.settings.enabled {
+            return Analyzed {
+                answer: Outcome::Accepted,
+                predictor: self,
+            };
+        }
+        Analyzed {
+            answer: Outcome::Accepted,
+            predictor: self.entered(samples_per_channel, frame),
+        }
+    }
+
+    pub fn reset(self) -> ClippingPredictor
+        requires { ⌜ Good self ⌝ }
+        ensures { λ r. ⌜ ResetOf self r ⌝ }
+    {
+        let channels = self.channels;
+        let mut p = self;
+        for c in 0..channels {
+            let ring = p.rings[c];
+            p.rings[c] = ring.reset();
+        }
+        p
+    }
+
+    pub fn estimate_clipped_level_step(
+        self,
+        channel: i32,
+        level: i32,
+        default_step: i32,
+        min_mic_level: i32,
+        max_mic_level: i32,
+    ) -> Estimate
+        requires { ⌜ Good self ⌝ }
+        ensures { λ r. ⌜ r ≡ estimateOf (viewOf self) (argumentsOf (self .channels) channel level «default_step» «min_mic_level» «max_mic_level») ⌝ }
+    {
+        let given = arguments_in_range(
+            self.channels,
+            channel,
+            level,
+            default_step,
+            min_mic_level,
+            max_mic_level,
+        );
+        match given {
+            Arguments::Refused(cause) => Estimate::Refused(cause),
+            Arguments::Given(place, asked) => {
+                let ring = self.rings[place];
+                let e = modes::estimate_for(self.settings, ring, asked);
+                answer_of(e.drop, e.near)
+            }
+        }
+    }
+}
