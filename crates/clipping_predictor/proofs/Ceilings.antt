@@ -1,11 +1,11 @@
 -- The test against the nearest whole dB is the ceiling, and it is near exactly where P lies within 10 of a whole dB from 0 to 14. Assumes nothing.
 use mathlib.Core.Path.{_≡_, refl, sym, ap, _∙_}
-use mathlib.Core.Bool.{Bool, true, false, _&&_, _||_, cond}
-use Prim.Native.Nat.{ℕ, zero, suc, _+_, _-_, _*_, _/_, _≤_, _<_, min}
+use mathlib.Core.Bool.{Bool, true, false, _&&_, cond}
+use Prim.Native.Nat.{ℕ, zero, suc, _+_, _-_, _*_, _/_, _≤_, _<_}
 use native.Mathlib.Omega.{arith}
 use native.Mathlib.Decide.{decLe}
-use lib.Dec.{leb, ltb}
-use lib.IntN.{ℤ, pos, negsuc, natAbs, subℕ, _-ℤ_}
+use lib.Dec.{ltb}
+use lib.IntN.{ℤ, pos, negsuc, natAbs, _-ℤ_}
 use lib.Signed.{leZ}
 use borrow.Author.Tests.{le-leb, lt-leb, leb-true, lt-ltb, ltb-true, ltb-false}
 use Rattle.numbers.proofs.Signs.{clash}
@@ -14,6 +14,7 @@ use Rattle.levels.specs.Decibels.{near, within, nearDistance}
 use Rattle.clipping_predictor.specs.declared.modes.Asked.{Asked}
 use Rattle.clipping_predictor.specs.Tree.{leaf, test, reached, marked}
 use Rattle.clipping_predictor.specs.Estimate.{adaptiveDrop, maxGainChange, nearestWhole, ceilingTree}
+use Rattle.clipping_predictor.proofs.Paths.{or-false}
 
 -- the ceiling of z thousandths, in whole dB from 0 up
 abbrev pub ceiling : ℤ → ℕ
@@ -37,14 +38,10 @@ is-ceiling a (negsuc n) = refl
 abbrev mark : ℤ → Bool
 mark z = ltb (nearestWhole z) maxGainChange && near (Finite z) (Finite (pos (nearestWhole z * 1000)))
 
-or-same : (b : Bool) → (b || false) ≡ b
-or-same true = refl
-or-same false = refl
-
 tree-mark : (a : Asked) (z : ℤ) (t n : Bool) (x y : ℕ) → marked (test t n (leaf x) (leaf y)) ≡ n
 unfolding marked
-tree-mark a z true n x y = or-same n
-tree-mark a z false n x y = or-same n
+tree-mark a z true n x y = or-false n
+tree-mark a z false n x y = or-false n
 
 -- z lies within 10 of k whole dB
 abbrev pub Close : ℤ → ℕ → Type 0

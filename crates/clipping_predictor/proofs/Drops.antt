@@ -1,14 +1,14 @@
 -- What an estimate can be: a drop leaves the level within its ends, and is the default step or more unless the least level stops it. Assumes nothing.
-use mathlib.Core.Path.{_≡_, refl, sym, ap, subst, _∙_}
+use mathlib.Core.Path.{_≡_, refl, sym, subst}
 use mathlib.Core.Logic.{_⊎_, inl, inr, ⊎-elim}
 use mathlib.Core.Bool.{Bool, true, false}
 use mathlib.Core.List.{List}
-use Prim.Native.Nat.{ℕ, zero, suc, _+_, _-_, _≤_, _<_, min, max}
+use Prim.Native.Nat.{ℕ, _+_, _-_, _≤_, _<_, min, max}
 use native.Mathlib.Omega.{arith}
 use native.Mathlib.Decide.{decLe}
 use lib.Dec.{leb}
 use borrow.Author.Tests.{leb-false}
-use lib.IntN.{ℤ, pos, negℤ}
+use lib.IntN.{pos, negℤ}
 use Rattle.levels.specs.declared.decibels.Decibels.{Decibels}
 use Rattle.levels.specs.declared.decibels.Decibels.the-variants.{Finite, PlusInfinity, MinusInfinity, NotANumber}
 use Rattle.gain_map.specs.VolumeUpdate.{walk}
@@ -21,7 +21,7 @@ use Rattle.clipping_predictor.specs.declared.settings.ClippingPredictorM
 use Rattle.clipping_predictor.specs.declared.settings.Settings.{Settings}
 use Rattle.clipping_predictor.specs.declared.modes.Asked.{Asked}
 use Rattle.clipping_predictor.specs.Tree.{Tree, leaf, test, reached}
-use Rattle.clipping_predictor.specs.Estimate.{dropBy, adaptiveDrop, maxGainChange, nearestWhole, ceilingTree, adaptiveTree, projectedPeak, aboveTree, modeTree, capacityOf, windowsTree, unlessLow, estimateTree}
+use Rattle.clipping_predictor.specs.Estimate.{dropBy, adaptiveDrop, maxGainChange, nearestWhole, adaptiveTree, projectedPeak, aboveTree, modeTree, capacityOf, windowsTree, unlessLow, estimateTree}
 
 -- n is none, or the drop for a step of at least the default one
 abbrev Stepped : Asked → ℕ → Type 0

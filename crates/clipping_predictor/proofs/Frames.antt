@@ -3,12 +3,12 @@ use mathlib.Core.Path.{_≡_, refl, sym, ap, subst, _∙_}
 use mathlib.Core.Bool.{Bool, true, false, _&&_}
 use mathlib.Core.List.{List, [], _∷_, map}
 use Prim.Native.Nat.{ℕ, zero, suc, _+_, _*_, _-_, _≤_, _<_}
-use native.Mathlib.Nat.{mul-le-mul, mul-le-mul-right, add-mul, one-mul, le-trans}
+use native.Mathlib.Nat.{mul-le-mul, mul-le-mul-right, add-mul, one-mul}
 use native.Mathlib.Omega.{arith}
 use lib.Dec.{leb, eqb}
 use lib.Ieee.{Float}
-use lib.ListN.{length, take, drop, getD, replicate, getD-replicate, length-take, length-drop, length-replicate}
-use borrow.Author.Tests.{le-leb, lt-leb, leb-true, eqb-true}
+use lib.ListN.{length, getD, replicate, getD-replicate, length-replicate}
+use borrow.Author.Tests.{le-leb, leb-true, eqb-true}
 use Rattle.numbers.specs.Listed.{listed}
 use Rattle.numbers.proofs.Listed.{length-listed, listed-same}
 use Rattle.numbers.proofs.Arrays.{Replaced}
@@ -25,7 +25,7 @@ use Rattle.clipping_predictor.specs.declared.ClippingPredictor.{Clipping
 use Rattle.clipping_predictor.specs.Settings as Settings
 use Rattle.clipping_predictor.specs.Estimate.{capacityIf, capacityOf}
 use Rattle.clipping_predictor.specs.GoodFor.{GoodFor}
-use Rattle.clipping_predictor.specs.Predictor.{maxChannels, noRing, ringAt, Predictor, viewOf, Good, emptyPredictor, Fresh, partOf, levelsOf, pushEach, frameFits, enteredIf, emptied, Entered, ResetOf}
+use Rattle.clipping_predictor.specs.Predictor.{maxChannels, noRing, ringAt, viewOf, Good, Fresh, partOf, levelsOf, pushEach, frameFits, enteredIf, Entered, ResetOf}
 
 -- ---- a frame that fits
 

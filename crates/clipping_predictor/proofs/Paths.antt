@@ -1,8 +1,7 @@
 -- What a tree of tests leads to, by the outcomes of its tests. Assumes nothing.
-use mathlib.Core.Path.{_≡_, refl, sym, ap, _∙_}
+use mathlib.Core.Path.{_≡_, refl, sym, _∙_}
 use mathlib.Core.Bool.{Bool, true, false, _||_}
 use Prim.Native.Nat.{ℕ}
-use Rattle.clipping_predictor.specs.declared.modes.Estimated.{Estimated}
 use Rattle.clipping_predictor.specs.Tree.{Tree, leaf, test, reached, marked}
 use Rattle.clipping_predictor.specs.Estimate.{estimated, afterTest}
 

@@ -1,5 +1,5 @@
 -- The ring that a predictor is made with, and a making that is accepted or refused. Assumes nothing.
-use mathlib.Core.Path.{_≡_, refl, sym, ap, subst, _∙_}
+use mathlib.Core.Path.{_≡_, refl, ap, subst, _∙_}
 use Prim.Native.Nat.{ℕ, _+_, _≤_, _<_}
 use native.Mathlib.Omega.{arith}
 use mathlib.Core.Bool.{Bool, true, false, _&&_}
@@ -16,8 +16,7 @@ use Rattle.clipping_predictor_level_buffer.specs.Ring.{maxCapacity, Emptied}
 use Rattle.clipping_predictor_level_buffer.specs.Making.{capacityOf, makingOf, capacityBeside, MadeOf}
 use Rattle.clipping_predictor.specs.declared.settings.ClippingPredictorConfig.{ClippingPredictorConfig}
 use Rattle.clipping_predictor.specs.declared.settings.Settings.{Settings}
-use Rattle.clipping_predictor.specs.declared.settings.Checked.{Checked}
-use Rattle.clipping_predictor.specs.declared.settings.Checked.the-variants.{InOrder, Refused}
+use Rattle.clipping_predictor.specs.declared.settings.Checked.the-variants.{InOrder}
 use Rattle.clipping_predictor.specs.Settings.{maxLevel, levelsInRange, windowsInOrder, inOrderIf, checked, settingsOf, Good}
 
 pub made-ring : (n : ℕ) (z : ℤ) (m : Made) → z ≡ pos n → 1 ≤ n → n ≤ maxCapacity → MadeOf z m → Emptied n (m .ring)

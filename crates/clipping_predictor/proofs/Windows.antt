@@ -1,6 +1,6 @@
 -- The estimate of a ring's records, by the tests that lead there. Assumes nothing.
-use mathlib.Core.Path.{_≡_, refl, sym, ap, _∙_}
-use mathlib.Core.Bool.{Bool, true, false, _&&_}
+use mathlib.Core.Path.{_≡_, refl, ap, _∙_}
+use mathlib.Core.Bool.{Bool, true, false}
 use mathlib.Core.List.{List}
 use Prim.Native.Nat.{ℕ, _+_, _≤_, _<_}
 use native.Mathlib.Omega.{arith}
@@ -10,10 +10,10 @@ use Rattle.numbers.specs.declared.refusal.Refusal.the-variants.{RingRange}
 use Rattle.clipping_predictor_level_buffer.specs.declared.level.Level.{Level}
 use Rattle.clipping_predictor_level_buffer.specs.declared.Metrics.{Metrics}
 use Rattle.clipping_predictor_level_buffer.specs.declared.Metrics.the-variants.{Refused}
-use Rattle.clipping_predictor_level_buffer.specs.Metrics.{metricsIf, foundIf, partialMetrics}
+use Rattle.clipping_predictor_level_buffer.specs.Metrics.{partialMetrics}
 use Rattle.clipping_predictor.specs.declared.settings.Settings.{Settings}
 use Rattle.clipping_predictor.specs.declared.modes.Asked.{Asked}
-use Rattle.clipping_predictor.specs.Tree.{Tree, leaf}
+use Rattle.clipping_predictor.specs.Tree.{leaf}
 use Rattle.clipping_predictor.specs.Estimate.{capacityIf, capacityOf, windowsTree, unlessLow, estimateTree}
 
 -- a ring with no place has no metrics

@@ -1,7 +1,7 @@
 -- Document 01, "Ring and predictors": what an estimate is, from the metrics of the two windows. WebRTC's `ClippingEventPredictor` and `ClippingPeakPredictor`.
 -- M, A are the metrics over the window, Mr, Ar those over the reference. Definitions only.
 use mathlib.Core.Path.{_≡_}
-use Prim.Native.Nat.{ℕ, zero, suc, _+_, _-_, _*_, _/_, min, max}
+use Prim.Native.Nat.{ℕ, _+_, _-_, _*_, _/_, min, max}
 use mathlib.Core.Bool.{Bool, true, false, _&&_, _||_}
 use mathlib.Core.List.{List}
 use lib.Dec.{leb, ltb}

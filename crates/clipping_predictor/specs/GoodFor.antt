@@ -1,8 +1,8 @@
 -- The good order of a predictor's rings. Definitions only.
 use mathlib.Core.Path.{_≡_}
-use mathlib.Core.Bool.{Bool, true, false}
-use mathlib.Core.List.{List, []}
-use Prim.Native.Nat.{ℕ, _+_}
+use mathlib.Core.Bool.{false}
+use mathlib.Core.List.{[]}
+use Prim.Native.Nat.{_+_}
 use Rattle.clipping_predictor_level_buffer.specs.declared.ClippingPredictorLevelBuffer.{ClippingPredictorLevelBuffer}
 use Rattle.clipping_predictor_level_buffer.specs.Ring.{stored}
 use Rattle.clipping_predictor_level_buffer.specs.Ring as Ring

@@ -12,9 +12,9 @@ use lib.Ieee.Scale.{finite}
 use lib.Ieee.Fits.{down-pos}
 use lib.Ieee.Exact.{HasValue}
 use Rattle.numbers.proofs.Signs.{clash}
-use Rattle.levels.specs.Level.{logarithm, decimal, thousandths, levelOf, d, h}
-use Rattle.levels.specs.Within.{Within, Near, IsLevel, tolerance}
-use Rattle.levels.proofs.Pattern.{Stands, own-fields}
+use Rattle.levels.specs.Level.{decimal, thousandths, levelOf, d, h}
+use Rattle.levels.specs.Within.{Within, IsLevel, tolerance}
+use Rattle.levels.proofs.Pattern.{own-fields}
 use Rattle.levels.proofs.Fields.{Signed, signed, special, Small, small, normal}
 use Rattle.levels.proofs.Floats.{log-is, cross, at-most-one, above-one}
 use Rattle.levels.proofs.Bounds.{bounds}

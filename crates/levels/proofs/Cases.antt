@@ -5,7 +5,7 @@ use native.Mathlib.Omega.{arith}
 use mathlib.Core.Bool.{true, false}
 use lib.Dec.{eqb}
 use lib.IntN.{pos}
-use lib.Ieee.{Float, nan}
+use lib.Ieee.{Float}
 use lib.Ieee.Exact.{HasValue}
 use Rattle.levels.specs.declared.parts.Parts.the-variants.{NotANumber as NoParts}
 use Rattle.levels.specs.declared.decibels.Decibels.{Decibels}

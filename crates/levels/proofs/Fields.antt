@@ -1,10 +1,10 @@
 -- What the three fields of an f32's bits say of its value. `HasValue v s a c` says that v is finite, has the sign s, and is a / c in size. Assumes nothing.
 use mathlib.Core.Path.{_≡_, refl, sym, ap, _∙_, subst}
-use Prim.Native.Nat.{ℕ, zero, suc, _+_, _-_, _*_, _/_, _%_, _^_, _≤_, _<_}
+use Prim.Native.Nat.{ℕ, zero, suc, _+_, _-_, _*_, _^_, _≤_, _<_}
 use native.Mathlib.Nat.{le-trans, le-of-eq, le-of-lt, lt-irrefl, mul-one, mul-comm, mul-assoc, mul-right-comm, mul-le-mul, mul-le-mul-right, le-of-mul-le-mul-right, eq-of-mul-eq-mul-right}
 use native.Mathlib.Omega.{arith}
 use mathlib.Core.Bool.{Bool, true, false, not, cond}
-use lib.Dec.{T, leb, eqb, eqb→eq, not-T, lit≤}
+use lib.Dec.{T, eqb, eqb→eq, not-T, lit≤}
 use lib.Pow.{pow-mono, pow-pos, pow-add}
 use lib.Ieee.{Float, nan, inf, fin, binary32, up, down, odd, ofFields}
 use lib.Ieee.Bits.{cond-no}

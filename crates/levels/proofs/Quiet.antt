@@ -1,18 +1,17 @@
 -- What the bounds say of a number at or below another; and so of every number up to 29,000. Assumes nothing.
-use mathlib.Core.Path.{_≡_, refl, sym, subst}
-use Prim.Native.Nat.{ℕ, suc, _+_, _-_, _*_, _^_, _≤_, _<_, zero-le}
+use mathlib.Core.Path.{_≡_, sym, subst}
+use Prim.Native.Nat.{ℕ, suc, _-_, _*_, _^_, _≤_, _<_, zero-le}
 use native.Mathlib.Nat.{le-trans, le-of-eq, lt-of-not-le, not-le-of-lt, zero-lt-suc, le-of-mul-le-mul-right, pow-le-pow-left, pow-le-pow-right, one-le-pow}
 use native.Mathlib.Omega.{arith}
 use native.Mathlib.Decide.{decLe}
 use mathlib.Core.Bool.{Bool, true, false, _||_}
 use lib.Dec.{T, ltb, ltb→lt, eqb, eqb→eq, leb, le→leb, lit≤, lit<}
-use lib.IntN.{ℤ, pos, negsuc, subℕ, _+ℤ_}
+use lib.IntN.{ℤ, pos, negsuc, subℕ}
 use lib.Signed.{leZ}
 use borrow.Author.Tests.{lt-ltb}
 use lib.Ieee.{Float, nan, inf, fin, binary32, up, down, fits, le, lt, eq, below, level, ofInt}
 use lib.Ieee.Fits.{down-pos, and-l}
 use Rattle.numbers.proofs.Powers.{mul-pow}
-use Rattle.levels.specs.declared.decibels.Decibels.{Decibels}
 use Rattle.levels.specs.declared.decibels.Decibels.the-variants.{Finite}
 use Rattle.levels.specs.Decibels.{plus, atMost}
 use Rattle.levels.specs.Level.{thousandths, levelOf, d, dbfs, minLevelDbfs}

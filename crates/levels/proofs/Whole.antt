@@ -1,5 +1,5 @@
 -- The magnitude of a float's fields, to the nearest whole number: what the shifts compute in each range of the exponent. Assumes nothing.
-use mathlib.Core.Path.{_≡_, refl, sym, ap, subst, _∙_}
+use mathlib.Core.Path.{_≡_, refl, sym, ap, _∙_}
 use Prim.Native.Nat.{ℕ, zero, suc, _+_, _-_, _*_, _/_, _%_, _^_, _≤_, _<_, min}
 use native.Mathlib.Nat.{mul-assoc, add-mul, mul-comm, mul-le-mul, mod-eq-of-lt, one-mul, div-le-self, lt-of-lt-of-le, div-eq-of-lt, le-div-iff-mul-le}
 use native.Mathlib.Omega.{arith}

@@ -1,6 +1,6 @@
 -- Document 01, "Levels": "The float's sign bit, eight exponent bits and 23 fraction bits are taken apart by the program." Definitions only.
 use Prim.Native.Nat.{ℕ, _/_, _%_, _^_}
-use mathlib.Core.Bool.{true, false}
+use mathlib.Core.Bool.{false}
 use lib.Dec.{eqb}
 use lib.Ieee.{Float, nan, inf, fin, binary32, toBits}
 use Rattle.levels.specs.declared.parts.Parts.{Parts}

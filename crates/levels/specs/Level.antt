@@ -1,6 +1,6 @@
 -- Document 01, "Levels": d of a peak and h of a mean square, in thousandths of a dB, defined over whole numbers on the exact fraction. One function of the
 -- power is both: `levelOf 20000` is d, `levelOf 10000` is h. Definitions only.
-use Prim.Native.Nat.{ℕ, zero, suc, _+_, _-_, _*_, _/_, _%_, _^_, _≤_, _<_}
+use Prim.Native.Nat.{ℕ, zero, suc, _+_, _-_, _*_, _/_, _^_}
 use mathlib.Core.Path.{_≡_}
 use mathlib.Core.Bool.{Bool, true, false}
 use lib.Dec.{leb}

@@ -11,7 +11,7 @@ use mir.Syntax.{w32}
 use mir.Val.{Fits, SFits, toZ, ofZ}
 use mir.ValLaws.{toZ-ofZ, toZ-pos}
 use Rattle.numbers.specs.Sign.{signed}
-use Rattle.numbers.proofs.Signs.{clash, read, again, minus-read, read64}
+use Rattle.numbers.proofs.Signs.{clash, read, minus-read, read64}
 
 -- ---- with a sign
 

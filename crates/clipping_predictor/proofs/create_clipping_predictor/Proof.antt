@@ -1,13 +1,11 @@
 -- `clipping_predictor::create_clipping_predictor` meets its contract: the channel count is tested first, and then the settings. Assumes nothing.
 use mathlib.Core.Path.{_≡_, refl, sym, ap, ap₂, _∙_}
-use lib.IntN.{ℤ}
 use mir.Syntax.{w32}
 use mir.ValLaws.{toZ-ofZ}
 use Rattle.numbers.specs.declared.natural.Natural.{Natural}
-use Rattle.numbers.specs.declared.natural.Natural.the-variants.{Number, Outside}
+use Rattle.numbers.specs.declared.natural.Natural.the-variants.{Number}
 use Rattle.numbers.specs.Natural.{withinOf}
 use Rattle.numbers.proofs.Ranges.{told}
-use Rattle.numbers.specs.declared.refusal.Outcome.the-variants.{Accepted}
 use Rattle.clipping_predictor.specs.declared.settings.Checked.{Checked}
 use Rattle.clipping_predictor.specs.Settings.{settingsOf}
 use Rattle.clipping_predictor.specs.Predictor.{maxChannels, Making, madeOf, makingOf}

@@ -1,5 +1,4 @@
 -- `clipping_predictor::frame_fits` meets its contract, test by test. Assumes nothing.
-use mathlib.Core.Path.{_≡_}
 use native.Mathlib.Omega.{arith}
 use borrow.Author.Tests.{le-leb, lt-leb}
 use Rattle.clipping_predictor_level_buffer.specs.Level.{maxSamplesPerChannel}

@@ -1,5 +1,4 @@
 -- `clipping_predictor::fresh` meets its contract: every ring is the one empty ring of capacity delay + reference. Assumes nothing.
-use mathlib.Core.Path.{_≡_}
 use Prim.Native.Nat.{_+_}
 use mir.Syntax.{w32}
 use mir.ValLaws.{toZ-pos}

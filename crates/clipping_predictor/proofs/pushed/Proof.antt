@@ -1,9 +1,6 @@
 -- `clipping_predictor::pushed` meets its contract: a part of 1 to 480 samples has a level. Assumes nothing.
-use mathlib.Core.Path.{_≡_, sym, subst, _∙_}
-use Prim.Native.Nat.{ℕ}
-use native.Mathlib.Omega.{arith}
+use mathlib.Core.Path.{sym, subst, _∙_}
 use Rattle.clipping_predictor_level_buffer.specs.declared.level.Level.{Level}
-use Rattle.clipping_predictor_level_buffer.specs.Level.{levelOf}
 use Rattle.clipping_predictor_level_buffer.specs.Ring.{Pushed}
 use Rattle.clipping_predictor.proofs.Frames.{measured, is-level, not-refused}
 use borrow.Author.Needs.{needs}

@@ -1,6 +1,5 @@
 -- `replay::run` goes from line to line within the text, and keeps the session in good order. Assumes nothing.
-use Prim.Native.Nat.{_≤_, _<_, _-_, _^_}
-use native.Mathlib.Omega.{arith}
+use Prim.Native.Nat.{_≤_, _-_}
 use lib.ListN.{length}
 use borrow.Author.Needs.{needs}
 use Rattle.replay.specs.Session.{Good}

@@ -1,6 +1,6 @@
 -- `ClippingPredictor::analyze` meets its contract: a frame that does not fit hands the predictor back, and so does one that is off. Assumes nothing.
-use mathlib.Core.Path.{_≡_, refl, sym, ap, _∙_}
-use mathlib.Core.Bool.{Bool, true, false}
+use mathlib.Core.Path.{refl, sym, ap, _∙_}
+use mathlib.Core.Bool.{Bool}
 use denote.Ref.{now}
 use borrow.Author.Tests.{not-true, not-false}
 use Rattle.numbers.proofs.Signs.{clash}

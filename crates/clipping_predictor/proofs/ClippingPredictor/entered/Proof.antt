@@ -1,11 +1,11 @@
 -- `ClippingPredictor::entered` meets its contract: channel by channel, each with the part of the frame that is its own. Assumes nothing.
-use mathlib.Core.Path.{_≡_, refl, sym, ap, subst, _∙_}
+use mathlib.Core.Path.{_≡_, refl, subst}
 use Prim.Native.Nat.{ℕ, _+_, _*_, _-_, _≤_, _<_}
 use native.Mathlib.Omega.{arith}
-use lib.ListN.{length, take, drop, getD, set, length-take, length-drop}
+use lib.ListN.{length, take, drop, getD, length-take, length-drop}
 use Rattle.numbers.proofs.Arrays.{Replaced, replaced-none, replaced-more}
 use Rattle.clipping_predictor_level_buffer.specs.Level.{levelOf}
-use Rattle.clipping_predictor_level_buffer.specs.Ring.{Good, Pushed}
+use Rattle.clipping_predictor_level_buffer.specs.Ring.{Pushed}
 use Rattle.clipping_predictor.specs.Predictor.{noRing}
 use Rattle.clipping_predictor.proofs.Frames.{Fits, fits, part-end, product, Kept, PushedAt, all-pushed}
 use Rattle.clipping_predictor.proofs.ClippingPredictor.entered.Statement.{statement}

@@ -1,17 +1,14 @@
 -- `ClippingPredictor::estimate_clipped_level_step` meets its contract: the arguments in range, and then the estimate of their channel. Assumes nothing.
-use mathlib.Core.Path.{_≡_, sym, ap, subst, _∙_}
+use mathlib.Core.Path.{_≡_, sym, ap, _∙_}
 use mathlib.Core.List.{List, []}
-use Prim.Native.Nat.{ℕ, _-_, _≤_, _<_}
+use Prim.Native.Nat.{_-_, _<_}
 use native.Mathlib.Omega.{arith}
-use lib.ListN.{length, getD}
 use mir.Syntax.{w32}
 use mir.ValLaws.{toZ-ofZ}
 use Rattle.numbers.proofs.Listed.{getD-listed}
 use Rattle.clipping_predictor_level_buffer.specs.declared.level.Level.{Level}
 use Rattle.clipping_predictor_level_buffer.specs.Ring.{stored}
-use Rattle.clipping_predictor.specs.declared.Arguments.{Arguments}
-use Rattle.clipping_predictor.specs.declared.Arguments.the-variants.{Given, Refused}
-use Rattle.clipping_predictor.specs.declared.modes.Estimated.{Estimated}
+use Rattle.clipping_predictor.specs.declared.Arguments.the-variants.{Given}
 use Rattle.clipping_predictor.specs.Estimate.{estimateTree, estimated}
 use Rattle.clipping_predictor.specs.Predictor.{ringAt, viewOf, argumentsOf, answered, estimateOf}
 use Rattle.clipping_predictor.proofs.Given.{channel-below}

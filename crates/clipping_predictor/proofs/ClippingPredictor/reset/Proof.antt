@@ -1,9 +1,9 @@
 -- `ClippingPredictor::reset` meets its contract: ring by ring. Assumes nothing.
 use borrow.Author.Needs.{needs}
-use mathlib.Core.Path.{_≡_, refl, sym, ap, subst, _∙_}
-use Prim.Native.Nat.{ℕ, _+_, _*_, _-_, _≤_, _<_}
+use mathlib.Core.Path.{_≡_, refl, subst}
+use Prim.Native.Nat.{ℕ, _-_, _≤_, _<_}
 use native.Mathlib.Omega.{arith}
-use lib.ListN.{length, getD, set}
+use lib.ListN.{getD}
 use Rattle.numbers.proofs.Arrays.{Replaced, replaced-none, replaced-more}
 use Rattle.clipping_predictor_level_buffer.specs.Ring.{Good}
 use Rattle.clipping_predictor.specs.Predictor.{noRing}

@@ -1,9 +1,7 @@
 -- `clipping_predictor::modes::above` meets its contract. Assumes nothing.
-use mathlib.Core.Path.{_≡_, sym, ap, _∙_}
-use mathlib.Core.Bool.{Bool, true, false, _||_}
-use Prim.Native.Nat.{ℕ}
+use mathlib.Core.Path.{sym, ap, _∙_}
+use mathlib.Core.Bool.{Bool, _||_}
 use Rattle.clipping_predictor.specs.declared.modes.Estimated.{Estimated}
-use Rattle.clipping_predictor.specs.Tree.{reached, marked}
 use Rattle.clipping_predictor.specs.Estimate.{dropBy, aboveTree, afterTest}
 use Rattle.clipping_predictor.proofs.Paths.{at-leaf}
 use borrow.Author.Needs.{needs}

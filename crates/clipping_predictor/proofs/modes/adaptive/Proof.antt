@@ -1,7 +1,7 @@
 -- `clipping_predictor::modes::adaptive` meets its contract, case by case. Assumes nothing.
-use mathlib.Core.Path.{_≡_, refl, sym, ap, subst, _∙_}
+use mathlib.Core.Path.{sym, ap, subst, _∙_}
 use mathlib.Core.Bool.{false}
-use Prim.Native.Nat.{ℕ, _≤_}
+use Prim.Native.Nat.{_≤_}
 use lib.IntN.{ℤ, natAbs}
 use Rattle.numbers.proofs.Signs.{again}
 use Rattle.levels.specs.declared.decibels.Decibels.{Decibels}

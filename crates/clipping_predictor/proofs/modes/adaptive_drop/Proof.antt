@@ -1,5 +1,5 @@
 -- `clipping_predictor::modes::adaptive_drop` meets its contract: the calls, one inside the other. Assumes nothing.
-use mathlib.Core.Path.{_≡_, sym, ap, _∙_}
+use mathlib.Core.Path.{_≡_, ap, _∙_}
 use Prim.Native.Nat.{ℕ, _-_, _^_, min, max}
 use mathlib.Core.Bool.{true}
 use native.Mathlib.Omega.{arith}

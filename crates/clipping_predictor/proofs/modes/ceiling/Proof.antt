@@ -1,7 +1,7 @@
 -- `clipping_predictor::modes::ceiling` meets its contract, by its test. Assumes nothing.
 use mathlib.Core.Path.{_≡_, sym, ap, _∙_}
-use mathlib.Core.Bool.{Bool, true, false, _&&_}
-use Prim.Native.Nat.{ℕ, _+_, _*_, _≤_, _<_, _^_}
+use mathlib.Core.Bool.{Bool, _&&_}
+use Prim.Native.Nat.{ℕ, _+_, _*_, _≤_}
 use native.Mathlib.Omega.{arith}
 use lib.Dec.{ltb}
 use lib.IntN.{ℤ, pos}
@@ -10,9 +10,7 @@ use mir.Syntax.{w32}
 use mir.ValLaws.{toZ-ofZ, toZ-pos}
 use Rattle.levels.specs.declared.decibels.Decibels.the-variants.{Finite}
 use Rattle.levels.specs.Decibels.{near}
-use Rattle.clipping_predictor.specs.declared.modes.Estimated.{Estimated}
-use Rattle.clipping_predictor.specs.Tree.{leaf}
-use Rattle.clipping_predictor.specs.Estimate.{maxGainChange, nearestWhole, adaptiveDrop, projectedLimit, ceilingTree, estimated}
+use Rattle.clipping_predictor.specs.Estimate.{maxGainChange, nearestWhole, adaptiveDrop}
 use Rattle.clipping_predictor.proofs.Paths.{at-leaf, held, failed}
 use Rattle.clipping_predictor.proofs.Signed.{whole-room}
 use borrow.Author.Needs.{needs}

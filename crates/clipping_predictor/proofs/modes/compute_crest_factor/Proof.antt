@@ -1,5 +1,5 @@
 -- `clipping_predictor::modes::compute_crest_factor` meets its contract: two levels are bounded, so their difference is whole. Assumes nothing.
-use mathlib.Core.Path.{_≡_, _∙_}
+use mathlib.Core.Path.{_∙_}
 use lib.Dec.{lit<}
 use Rattle.levels.specs.Decibels.{minus}
 use Rattle.levels.specs.Level.{levelLimit}

@@ -1,5 +1,4 @@
 -- `clipping_predictor::modes::drop_by` meets its contract: the four calls, one inside the other. Assumes nothing.
-use mathlib.Core.Path.{_≡_}
 use Rattle.clipping_predictor.specs.Estimate.{dropBy}
 use borrow.Author.Needs.{needs}
 use Rattle.clipping_predictor.proofs.modes.drop_by.Statement.{statement}

@@ -1,6 +1,6 @@
 -- `clipping_predictor::modes::estimate_for` meets its contract: off, at or below the least level, or by the metrics of the two windows. Assumes nothing.
-use mathlib.Core.Path.{_≡_, sym, ap, ap₂, _∙_}
-use Prim.Native.Nat.{ℕ, _+_}
+use mathlib.Core.Path.{sym, ap, ap₂, _∙_}
+use Prim.Native.Nat.{ℕ}
 use borrow.Author.Tests.{not-true, not-false}
 use Rattle.clipping_predictor_level_buffer.specs.declared.Metrics.{Metrics}
 use Rattle.clipping_predictor_level_buffer.specs.Ring.{stored}

@@ -1,5 +1,5 @@
 -- `clipping_predictor::modes::estimate_peak_value` meets its contract: all that is added is bounded, so the sums are whole. Assumes nothing.
-use mathlib.Core.Path.{_≡_, ap, _∙_}
+use mathlib.Core.Path.{ap, _∙_}
 use Prim.Native.Nat.{_+_}
 use lib.Dec.{lit≤, lit<}
 use Rattle.levels.specs.declared.decibels.Decibels.{Decibels}

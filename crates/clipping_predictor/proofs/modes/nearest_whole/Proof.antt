@@ -1,8 +1,8 @@
 -- `clipping_predictor::modes::nearest_whole` meets its contract, by the sign. Assumes nothing.
-use mathlib.Core.Path.{_≡_, sym, ap, _∙_}
+use mathlib.Core.Path.{_≡_, ap, _∙_}
 use native.Mathlib.Omega.{arith}
 use Prim.Native.Nat.{ℕ, _+_, _/_}
-use lib.IntN.{ℤ, pos, natAbs}
+use lib.IntN.{natAbs}
 use mir.Syntax.{w32}
 use mir.ValLaws.{toZ-ofZ}
 use Rattle.clipping_predictor.specs.Estimate.{nearestWhole}

@@ -1,18 +1,17 @@
 -- `clipping_predictor::modes::predict_clipping_event` meets its contract: each return by the outcomes of its tests. Assumes nothing.
 use mathlib.Core.Path.{_≡_, sym, ap, _∙_}
-use mathlib.Core.Bool.{Bool, true, false, _||_}
-use Prim.Native.Nat.{ℕ, _+_, _^_, _≤_, _<_}
+use mathlib.Core.Bool.{Bool, false, _||_}
+use Prim.Native.Nat.{ℕ, _+_, _<_}
 use native.Mathlib.Omega.{arith}
-use lib.IntN.{ℤ, natAbs}
+use lib.IntN.{natAbs}
 use Rattle.numbers.proofs.Signs.{read, again, mag-abs}
-use Rattle.levels.specs.declared.decibels.Decibels.{Decibels}
 use Rattle.levels.specs.declared.decibels.Decibels.the-variants.{Finite}
 use lib.Dec.{lit<}
 use Rattle.levels.specs.Decibels.{atMost, less, minus, near, Bounded}
 use Rattle.levels.specs.Level.{dbfs, levelLimit}
 use Rattle.clipping_predictor.specs.Settings.{maxLevel}
 use Rattle.clipping_predictor.specs.Tree.{leaf, test}
-use Rattle.clipping_predictor.specs.Estimate.{dropBy, crestFactor, eventTree}
+use Rattle.clipping_predictor.specs.Estimate.{dropBy, crestFactor}
 use Rattle.clipping_predictor.proofs.Paths.{at-leaf, held, second-held, second-failed}
 use borrow.Author.Needs.{needs}
 use Rattle.clipping_predictor.proofs.modes.predict_clipping_event.Statement.{statement}

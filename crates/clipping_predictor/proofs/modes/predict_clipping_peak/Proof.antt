@@ -1,18 +1,17 @@
 -- `clipping_predictor::modes::predict_clipping_peak` meets its contract: each return by the outcomes of its tests. Assumes nothing.
-use mathlib.Core.Path.{_≡_, sym, ap, subst, _∙_}
-use mathlib.Core.Bool.{Bool, true, false, _||_}
+use mathlib.Core.Path.{_≡_, sym, ap, _∙_}
+use mathlib.Core.Bool.{Bool, false, _||_}
 use Prim.Native.Nat.{ℕ}
 use native.Mathlib.Omega.{arith}
-use lib.IntN.{ℤ}
 use mir.Syntax.{w32}
 use mir.ValLaws.{toZ-ofZ}
 use Rattle.numbers.proofs.Signs.{read, again, mag-abs}
 use Rattle.levels.specs.declared.decibels.Decibels.{Decibels}
 use Rattle.levels.specs.declared.decibels.Decibels.the-variants.{Finite}
-use Rattle.levels.specs.Decibels.{atMost, less, near, Bounded}
+use Rattle.levels.specs.Decibels.{atMost, less, near}
 use Rattle.levels.specs.Level.{dbfs}
 use Rattle.clipping_predictor.specs.Tree.{Tree, leaf, test}
-use Rattle.clipping_predictor.specs.Estimate.{wholeDb, projectedPeak, projectedLimit, aboveTree, afterTest}
+use Rattle.clipping_predictor.specs.Estimate.{wholeDb, projectedPeak, aboveTree, afterTest}
 use Rattle.clipping_predictor.proofs.Paths.{at-leaf, held, second-held, second-failed}
 use borrow.Author.Needs.{needs}
 use Rattle.clipping_predictor.proofs.modes.predict_clipping_peak.Statement.{statement}

@@ -1,5 +1,5 @@
 -- `clipping_predictor::settings::check` meets its contract. Assumes nothing.
-use mathlib.Core.Path.{_≡_, ap, _∙_}
+use mathlib.Core.Path.{_∙_}
 use Rattle.numbers.proofs.Signs.{again}
 use Rattle.clipping_predictor.specs.Settings.{configOf, settingsOf}
 use borrow.Author.Needs.{needs}

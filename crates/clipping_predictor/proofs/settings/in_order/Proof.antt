@@ -1,6 +1,6 @@
 -- `clipping_predictor::settings::in_order` meets its contract: each return by the answers that lead there. Assumes nothing.
 use mathlib.Core.Path.{_≡_, sym, ap, _∙_}
-use mathlib.Core.Bool.{Bool, true, false, _&&_}
+use mathlib.Core.Bool.{Bool, _&&_}
 use borrow.Author.Tests.{not-true, not-false}
 use mir.Syntax.{w32}
 use mir.ValLaws.{toZ-ofZ}
@@ -11,7 +11,7 @@ use Rattle.clipping_predictor_level_buffer.specs.Ring.{maxCapacity}
 use Rattle.clipping_predictor.specs.declared.settings.ClippingPredictorConfig.{ClippingPredictorConfig}
 use Rattle.clipping_predictor.specs.declared.settings.Settings.{Settings}
 use Rattle.clipping_predictor.specs.declared.settings.Checked.the-variants.{InOrder}
-use Rattle.clipping_predictor.specs.Settings.{levelsInRange, windowsInOrder, inOrderIf, checked, configOf, settingsOf}
+use Rattle.clipping_predictor.specs.Settings.{levelsInRange, inOrderIf, checked, configOf, settingsOf}
 use borrow.Author.Needs.{needs}
 use Rattle.clipping_predictor.proofs.settings.in_order.Statement.{statement}
 use Rattle.clipping_predictor.proofs.settings.in_order.Tie as tie

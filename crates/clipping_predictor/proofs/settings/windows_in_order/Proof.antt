@@ -1,5 +1,4 @@
 -- `clipping_predictor::settings::windows_in_order` meets its contract. Assumes nothing.
-use mathlib.Core.Path.{_≡_}
 use Prim.Native.Nat.{_+_}
 use borrow.Author.Tests.{lt-ltb, le-ltb}
 use Rattle.clipping_predictor.specs.Settings.{windowsInOrder}

@@ -1,8 +1,7 @@
 -- `levels::decibels::difference` meets its contract, case by case. Assumes nothing.
-use mathlib.Core.Path.{_≡_, sym, ap, _∙_}
+use mathlib.Core.Path.{sym, ap, _∙_}
 use mathlib.Core.Bool.{true, false}
 use lib.IntN.{ℤ}
-use native.Mathlib.Omega.{arith}
 use Rattle.levels.specs.declared.decibels.Decibels.the-variants.{Finite}
 use Rattle.levels.specs.declared.decibels.Decibels.{Decibels}
 use Rattle.levels.specs.Decibels.{held, plus, negated}

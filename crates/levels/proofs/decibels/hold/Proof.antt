@@ -1,7 +1,6 @@
 -- `levels::decibels::hold` meets its contract, by its two tests. Assumes nothing.
-use mathlib.Core.Path.{_≡_, sym, ap, subst, _∙_}
-use mir.Syntax.{w32, w64}
-use mir.Val.{SFits}
+use mathlib.Core.Path.{_≡_, sym, ap, _∙_}
+use mir.Syntax.{w64}
 use mir.ValLaws.{toZ-ofZ}
 use Rattle.levels.specs.Decibels.{held32}
 use Rattle.numbers.proofs.Signs.{read64, again}

@@ -1,5 +1,5 @@
 -- `levels::decibels::less_than` meets its contract, case by case. Assumes nothing.
-use mathlib.Core.Path.{_≡_, sym, ap, ap₂, _∙_}
+use mathlib.Core.Path.{sym, ap, ap₂, _∙_}
 use lib.Signed.{ltZ}
 use Rattle.levels.specs.declared.decibels.Decibels.{Decibels}
 use Rattle.levels.specs.Decibels.{less}

@@ -1,7 +1,5 @@
 -- `levels::decibels::plus_finite` meets its contract, case by case. Assumes nothing.
-use mathlib.Core.Path.{_≡_, sym, ap, _∙_}
-use native.Mathlib.Omega.{arith}
-use mir.Val.{SFits}
+use mathlib.Core.Path.{sym, ap, _∙_}
 use Rattle.levels.specs.declared.decibels.Decibels.the-variants.{Finite}
 use Rattle.levels.specs.declared.decibels.Decibels.{Decibels}
 use Rattle.levels.specs.Decibels.{held32, held, plus}

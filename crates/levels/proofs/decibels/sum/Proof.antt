@@ -1,11 +1,10 @@
 -- `levels::decibels::sum` meets its contract, case by case. Assumes nothing.
-use mathlib.Core.Path.{_≡_, sym, ap, _∙_}
+use mathlib.Core.Path.{sym, ap, _∙_}
 use mathlib.Core.Bool.{true, false}
 use lib.IntN.{ℤ}
-use native.Mathlib.Omega.{arith}
 use Rattle.levels.specs.declared.decibels.Decibels.the-variants.{Finite}
 use Rattle.levels.specs.declared.decibels.Decibels.{Decibels}
-use Rattle.levels.specs.Decibels.{held, plus, negated}
+use Rattle.levels.specs.Decibels.{held, plus}
 use Rattle.numbers.proofs.Signs.{narrow, wide-small, widened}
 use Rattle.levels.proofs.Sums.{held-infinity, plus-nan, summed}
 use borrow.Author.Needs.{needs}

@@ -7,7 +7,7 @@ use lib.Dec.{T, lit≤}
 use lib.IntN.{pos}
 use mir.Syntax.{w32}
 use mir.Facts.{toZ-pos}
-use lib.Ieee.{Float, binary32, fits}
+use lib.Ieee.{binary32, fits}
 use Rattle.levels.specs.declared.decibels.Decibels.{Decibels}
 use Rattle.levels.specs.declared.decibels.Decibels.the-variants.{Finite}
 use Rattle.levels.specs.Level.{digits, levelOf, levelLimit, Leveled}

@@ -1,6 +1,5 @@
 -- `numbers::natural::within` meets its contract: each return by the tests that lead there. Assumes nothing.
 use mathlib.Core.Path.{_≡_, ap, _∙_}
-use lib.IntN.{ℤ}
 use mir.Syntax.{w32}
 use mir.ValLaws.{toZ-ofZ}
 use Rattle.numbers.specs.Natural.{withinOf}

@@ -1,5 +1,5 @@
 -- `numbers::sign::with_sign` meets its contract. Assumes nothing.
-use mathlib.Core.Path.{_≡_, sym, ap, _∙_}
+use mathlib.Core.Path.{sym, ap, _∙_}
 use mathlib.Core.Bool.{Bool}
 use Rattle.numbers.specs.Sign.{signed}
 use Rattle.numbers.proofs.WithSign.{minus-fits, minus-signed, plus-signed, minus-held, plus-held}

@@ -1,7 +1,6 @@
 -- `replay::session::print_rings` goes over the channels. Assumes nothing.
-use Prim.Native.Nat.{_≤_, _<_, _-_, _^_}
+use Prim.Native.Nat.{_≤_, _-_}
 use native.Mathlib.Omega.{arith}
-use lib.ListN.{length}
 use borrow.Author.Needs.{needs}
 use Rattle.replay.proofs.session.print_rings.Statement.{statement}
 use Rattle.replay.proofs.session.print_rings.Tie as tie

@@ -1,5 +1,5 @@
 -- `replay::text::digits` stays within the text, and its number within 45 bits. Assumes nothing.
-use Prim.Native.Nat.{_≤_, _<_, _-_, _^_}
+use Prim.Native.Nat.{_<_, _-_, _^_}
 use lib.ListN.{length}
 use borrow.Author.Needs.{needs}
 use Rattle.replay.proofs.text.digits.Statement.{statement}

@@ -1,6 +1,5 @@
 -- `replay::text::line_end` stays within the text. Assumes nothing.
-use Prim.Native.Nat.{_≤_, _<_, _-_, _^_, _*_, ℕ}
-use native.Mathlib.Omega.{arith}
+use Prim.Native.Nat.{_≤_, _-_}
 use lib.ListN.{length}
 use borrow.Author.Needs.{needs}
 use Rattle.replay.proofs.text.line_end.Statement.{statement}
