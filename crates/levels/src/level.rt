@@ -6,7 +6,7 @@ ghost use Rattle.levels.specs.Level.{digits, decimal, levelOf, d, h, dbf
 use crate::decibels::Decibels;
 use crate::parts::Parts;
 
-// The level of full scale, in thousandths, with its sign turned (`MIN_LEVEL_DBFS`).
+// The level of 1 against full scale, in thousandths of a dB.
 pub const MIN_LEVEL_DBFS: i32 = -90310;
 
 // The 13 binary digits after the point of the binary logarithm of start / 2^31.
