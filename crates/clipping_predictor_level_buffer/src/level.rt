@@ -1,6 +1,6 @@
 // The level of one channel's frame: its mean square and its peak. Ports what `analyze` of clipping_predictor.rs works out for each channel.
 ghost use mathlib.Core.Path.{_≡_};
-ghost use Prim.Native.Nat.{_≤_, max};
+ghost use Prim.Native.Nat.{_≤_};
 ghost use lib.ListN.{length};
 ghost use Rattle.clipping_predictor_level_buffer.specs.Level.{maxSamplesPerChannel, levelOf, measureOf};
 ghost use Rattle.clipping_predictor_level_buffer.specs.Running.{largestPart, withFour, Reached, Passed};
@@ -37,28 +37,25 @@ struct Peaks {
     z: u32,
 }
 
-fn larger_bits(a: u32, b: u32) -> u32
-    ensures { λ r. ⌜ r ≡ max a b ⌝ }
-{
-    if a < b { b } else { a }
-}
-
 impl Peaks {
     fn with(self, w: f32, x: f32, y: f32, z: f32) -> Peaks
         ensures { λ r. ⌜ largestPart r ≡ withFour (largestPart self) w x y z ⌝ }
     {
         Peaks {
-            w: larger_bits(self.w, levels::parts::magnitude_bits(w)),
-            x: larger_bits(self.x, levels::parts::magnitude_bits(x)),
-            y: larger_bits(self.y, levels::parts::magnitude_bits(y)),
-            z: larger_bits(self.z, levels::parts::magnitude_bits(z)),
+            w: numbers::word::larger(self.w, levels::parts::magnitude_bits(w)),
+            x: numbers::word::larger(self.x, levels::parts::magnitude_bits(x)),
+            y: numbers::word::larger(self.y, levels::parts::magnitude_bits(y)),
+            z: numbers::word::larger(self.z, levels::parts::magnitude_bits(z)),
         }
     }
 
     fn largest(self) -> u32
         ensures { λ r. ⌜ r ≡ largestPart self ⌝ }
     {
-        larger_bits(larger_bits(self.w, self.x), larger_bits(self.y, self.z))
+        numbers::word::larger(
+            numbers::word::larger(self.w, self.x),
+            numbers::word::larger(self.y, self.z),
+        )
     }
 }
 
@@ -102,7 +99,7 @@ fn one_by_one(samples: &[f32], from: Running) -> Running
     while at < samples.len() {
         let x = samples[at];
         sum = sum + x * x;
-        peak = larger_bits(peak, levels::parts::magnitude_bits(x));
+        peak = numbers::word::larger(peak, levels::parts::magnitude_bits(x));
         at += 1;
     }
     Running { at, sum, peak }

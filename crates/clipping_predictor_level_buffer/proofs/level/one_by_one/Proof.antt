@@ -27,8 +27,8 @@ shared-slice-read-x c = omega arith
 magnitude-bits-requires : tie.Need-magnitude-bits-requires Inv-loop μ-loop
 magnitude-bits-requires c κs = search needs
 
-larger-bits-requires : tie.Need-larger-bits-requires Inv-loop μ-loop
-larger-bits-requires c κs = search needs
+larger-requires : tie.Need-larger-requires Inv-loop μ-loop
+larger-requires c κs = search needs
 
 add-at : tie.Need-add-at Inv-loop μ-loop
 add-at c = omega arith
@@ -39,7 +39,7 @@ loop-less c = omega arith
 loop-again : tie.Need-loop-again Inv-loop μ-loop
 loop-again c =
     let l = c .before .before .before .before .loop in
-    goes-on _ _ _ _ _ _ (l .inv) (omega arith) refl (c .larger-bits .ensures ∙ ap (max (l .peak)) (c .before .magnitude-bits .ensures))
+    goes-on _ _ _ _ _ _ (l .inv) (omega arith) refl (c .larger .ensures ∙ ap (max (l .peak)) (c .before .magnitude-bits .ensures))
 
 returns : tie.Need-returns Inv-loop μ-loop
 returns c = ends _ _ (c .before .loop .inv) (c .loop-test .left)
@@ -54,7 +54,7 @@ one-by-one-spec =
     mul-x
     shared-slice-read-x
     magnitude-bits-requires
-    larger-bits-requires
+    larger-requires
     add-at
     loop-less
     loop-again

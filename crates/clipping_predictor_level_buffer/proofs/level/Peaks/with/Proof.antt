@@ -8,26 +8,26 @@ use Rattle.clipping_predictor_level_buffer.proofs.level.Peaks.with.Tie 
 magnitude-bits-requires : tie.Need-magnitude-bits-requires
 magnitude-bits-requires c κs = search needs
 
-larger-bits-requires : tie.Need-larger-bits-requires
-larger-bits-requires c κs = search needs
+larger-requires : tie.Need-larger-requires
+larger-requires c κs = search needs
 
 magnitude-bits-requires-2 : tie.Need-magnitude-bits-requires-2
 magnitude-bits-requires-2 c κs = search needs
 
-larger-bits-requires-2 : tie.Need-larger-bits-requires-2
-larger-bits-requires-2 c κs = search needs
+larger-requires-2 : tie.Need-larger-requires-2
+larger-requires-2 c κs = search needs
 
 magnitude-bits-requires-3 : tie.Need-magnitude-bits-requires-3
 magnitude-bits-requires-3 c κs = search needs
 
-larger-bits-requires-3 : tie.Need-larger-bits-requires-3
-larger-bits-requires-3 c κs = search needs
+larger-requires-3 : tie.Need-larger-requires-3
+larger-requires-3 c κs = search needs
 
 magnitude-bits-requires-4 : tie.Need-magnitude-bits-requires-4
 magnitude-bits-requires-4 c κs = search needs
 
-larger-bits-requires-4 : tie.Need-larger-bits-requires-4
-larger-bits-requires-4 c κs = search needs
+larger-requires-4 : tie.Need-larger-requires-4
+larger-requires-4 c κs = search needs
 
 returns : tie.Need-returns
 returns c =
@@ -39,11 +39,11 @@ with-spec =
     tie.close
     (tie.spec
     magnitude-bits-requires
-    larger-bits-requires
+    larger-requires
     magnitude-bits-requires-2
-    larger-bits-requires-2
+    larger-requires-2
     magnitude-bits-requires-3
-    larger-bits-requires-3
+    larger-requires-3
     magnitude-bits-requires-4
-    larger-bits-requires-4
+    larger-requires-4
     returns)

@@ -1,0 +1,9 @@
+pub mod Settings
+pub mod Clipped
+pub mod Ratios
+pub mod Errors
+pub mod Paths
+pub mod Kept
+pub mod Users
+pub mod Ceiling
+pub mod Starred

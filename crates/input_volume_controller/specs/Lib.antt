@@ -1,0 +1,4 @@
+pub mod Config
+pub mod ClippedRatio
+pub mod SpeechLevel
+pub mod Mono
