@@ -1,11 +1,11 @@
 -- The tests of the settings, one way through each at a time, and what they give. Assumes nothing.
-use mathlib.Core.Path.{_≡_, refl, sym, ap, _∙_}
-use mathlib.Core.Bool.{Bool, true, false, not, _&&_}
-use Prim.Native.Nat.{ℕ, suc, _≤_}
+use mathlib.Core.Path.{_≡_, refl, sym, ap, subst⁻¹}
+use mathlib.Core.Bool.{Bool, true, false, _&&_}
+use Prim.Native.Nat.{ℕ, _≤_}
 use native.Mathlib.Omega.{arith}
-use lib.Dec.{T, leb→le}
+use lib.Dec.{T}
 use lib.IntN.{ℤ, pos, negsuc, natAbs}
-use lib.Signed.{leZ, ltZ}
+use lib.Signed.{leZ, ltZ, _≤ℤ_}
 use lib.Ieee.{Float, binary32, le, ofInt}
 use borrow.Author.Tests.{ltb-true, ltb-false, le-leb, lt-leb, leb-true}
 use Rattle.numbers.proofs.Signs.{clash}
@@ -13,6 +13,7 @@ use Rattle.numbers.specs.declared.refusal.Refusal.the-variants.{MinimumVolume, 
 use Rattle.input_volume_controller.specs.declared.config.Config.{Config}
 use Rattle.input_volume_controller.specs.declared.config.Settings.{Settings}
 use Rattle.input_volume_controller.specs.declared.config.Checked.the-variants as Checked
+use Rattle.input_volume_controller.specs.SpeechLevel.{lowestDb, highestDb, GoodTargets}
 use Rattle.input_volume_controller.specs.Config.{inRange, bothInRange, inUnit, bothInUnit, volumesInRange, stepInRange, waitsInRange, targetsInRange, thresholdsInRange, settingsFrom, settingsOf, InOrder}
 
 -- ---- the order
@@ -90,6 +91,19 @@ range-one-most n x e = let t = both-true _ _ e in low-most n x (from-one x (t .0
 pub both-most : (n : ℕ) (x y : ℤ) → bothInRange (pos 0) (pos n) x y ≡ true → (natAbs x ≤ n) × (natAbs y ≤ n)
 unfolding bothInRange
 both-most n x y e = let t = both-true _ _ e in (range-most n x (t .0), range-most n y (t .1))
+
+range-both : (low high x : ℤ) → inRange low high x ≡ true → (low ≤ℤ x) × (x ≤ℤ high)
+unfolding inRange
+range-both low high x e = let t = both-true (leZ low x) (leZ x high) e in (record { le = subst⁻¹ T (t .0) tt }, record { le = subst⁻¹ T (t .1) tt })
+
+-- targets that pass their test are in good order
+pub targets-good : (min max : ℤ) → bothInRange lowestDb highestDb min max ≡ true → GoodTargets min max
+unfolding bothInRange
+targets-good min max e =
+    let t = both-true _ _ e in
+    let a = range-both lowestDb highestDb min (t .0) in
+    let b = range-both lowestDb highestDb max (t .1) in
+    record { min-low = a .0; min-high = a .1; max-low = b .0; max-high = b .1 }
 
 -- ---- the first cause that holds
 

@@ -1,7 +1,7 @@
 -- Document 01, "What a call can say no to", causes 2 to 6: the settings of a controller, the tests of them in rising number, and what is kept. Definitions only.
 use mathlib.Core.Path.{_≡_}
 use mathlib.Core.Bool.{Bool, true, false, _&&_}
-use Prim.Native.Nat.{ℕ, max}
+use Prim.Native.Nat.{max}
 use lib.IntN.{ℤ, pos, negsuc, natAbs}
 use lib.Signed.{leZ}
 use lib.Ieee.{Float, binary32, le, ofBits, ofInt}

@@ -66,7 +66,7 @@ fn in_range(low: i32, high: i32, x: i32) -> bool
     x <= high
 }
 
-fn both_in_range(low: i32, high: i32, x: i32, y: i32) -> bool
+pub fn both_in_range(low: i32, high: i32, x: i32, y: i32) -> bool
     ensures { λ r. ⌜ r ≡ bothInRange low high x y ⌝ }
 {
     if !in_range(low, high, x) {
@@ -127,13 +127,26 @@ pub fn check(config: Config) -> Checked
     if !in_range(1, 255, config.clipped_level_step) {
         return Checked::Refused(Refusal::ClippedLevelStep);
     }
-    if !both_in_range(0, 65535, config.clipped_wait_frames, config.update_input_volume_wait_frames) {
+    if !both_in_range(
+        0,
+        65535,
+        config.clipped_wait_frames,
+        config.update_input_volume_wait_frames,
+    ) {
         return Checked::Refused(Refusal::WaitFrames);
     }
-    if !both_in_range(-90, 30, config.target_range_max_dbfs, config.target_range_min_dbfs) {
+    if !both_in_range(
+        -90,
+        30,
+        config.target_range_max_dbfs,
+        config.target_range_min_dbfs,
+    ) {
         return Checked::Refused(Refusal::TargetRange);
     }
-    if !both_in_unit(config.speech_probability_threshold, config.speech_ratio_threshold) {
+    if !both_in_unit(
+        config.speech_probability_threshold,
+        config.speech_ratio_threshold,
+    ) {
         return Checked::Refused(Refusal::SpeechThreshold);
     }
     Checked::InOrder(kept(config))

@@ -1,6 +1,7 @@
 // Replays commands from standard input, one a line, and writes each with its answer, `COMMAND => ANSWER`. The answers to compare with were made outside.
 //
 //     S change volume minimum maximum   the volume step
+//     Q level minimum maximum           the speech error
 //     W bits                            rounding to whole
 //     A bits                            the magnitude
 //     D bits   H bits   L bits          d, h, and d against full scale, in thousandths of a dB

@@ -13,7 +13,11 @@ use clipping_predictor_level_buffer::Metrics;
 use clipping_predictor_level_buffer::Stored;
 use clipping_predictor_level_buffer::level::Level;
 use gain_map::VolumeUpdate;
+use input_volume_controller::speech_level::RmsError;
+use input_volume_controller::speech_level::SpeechLevel;
+use input_volume_controller::speech_level::get_speech_level_rms_error_db;
 use numbers::refusal::Outcome;
+use numbers::refusal::Refusal;
 
 pub struct Session {
     pub ring: ClippingPredictorLevelBuffer,
@@ -77,6 +81,24 @@ fn volume_step(s: &[u8]) {
 
 fn float(s: &[u8]) -> f32 {
     levels::bits::from_bits(text::bits(s, 2))
+}
+
+// The speech error, for targets that the settings may have.
+fn speech_error(s: &[u8]) {
+    let level = float(s);
+    let least = text::decimal(s, 11);
+    let most = text::decimal(s, least.next);
+    let min = text::signed(least);
+    let max = text::signed(most);
+    if !input_volume_controller::config::both_in_range(-90, 30, min, max) {
+        print::refusal(Refusal::TargetRange);
+        return;
+    }
+    let error = get_speech_level_rms_error_db(SpeechLevel::Dbfs(level), min, max);
+    match error {
+        RmsError::NoError => print::text(b"none"),
+        RmsError::Db(db) => print::number(db),
+    }
 }
 
 // ---- the ring
@@ -301,6 +323,7 @@ fn predictor_estimated(predictor: ClippingPredictor, s: &[u8])
 fn number_line(letter: u8, s: &[u8]) {
     match letter {
         b'S' => volume_step(s),
+        b'Q' => speech_error(s),
         b'W' => print::number(levels::rounding::round(float(s))),
         b'A' => print::float(levels::parts::magnitude(float(s))),
         b'D' => print::decibels(levels::level::peak_level(float(s))),

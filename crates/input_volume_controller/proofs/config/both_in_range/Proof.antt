@@ -3,7 +3,7 @@ use mathlib.Core.Path.{_≡_, sym, _∙_}
 use borrow.Author.Needs.{needs}
 use borrow.Author.Tests.{not-true, not-false}
 use Rattle.numbers.proofs.Signs.{read, again}
-use Rattle.input_volume_controller.specs.Config.{inRange, bothInRange}
+use Rattle.input_volume_controller.specs.Config.{bothInRange}
 use Rattle.input_volume_controller.proofs.Settings.{both-first, both-second}
 use Rattle.input_volume_controller.proofs.config.both_in_range.Statement.{statement}
 use Rattle.input_volume_controller.proofs.config.both_in_range.Tie as tie
