@@ -1,4 +1,4 @@
-//! Rust's own answers: reads lines `W bits` (`round() as i32`) and `A bits` (`abs`), and writes `COMMAND => ANSWER`.
+//! Rust's own answers: reads lines `w bits` (`round() as i32`) and `a bits` (`abs`), and writes `COMMAND => ANSWER`.
 use std::io::BufRead;
 
 fn main() {
@@ -6,9 +6,9 @@ fn main() {
         let line = line.unwrap();
         let x = f32::from_bits(u32::from_str_radix(&line[2..], 16).unwrap());
         match &line[..1] {
-            "W" => println!("{line} => {}", x.round() as i32),
-            "A" if x.is_nan() => println!("{line} => 7fc00000"),
-            "A" => println!("{line} => {:08x}", x.abs().to_bits()),
+            "w" => println!("{line} => {}", x.round() as i32),
+            "a" if x.is_nan() => println!("{line} => 7fc00000"),
+            "a" => println!("{line} => {:08x}", x.abs().to_bits()),
             other => panic!("unknown command {}", other),
         }
     }

@@ -1,5 +1,5 @@
 #!/usr/bin/env python3
-"""Levels by exact arithmetic: reads lines `D bits`, `H bits`, `L bits` and writes `COMMAND => ANSWER`.
+"""Levels by exact arithmetic: reads lines `d bits`, `h bits`, `L bits` and writes `COMMAND => ANSWER`.
 
 The answer is the whole number of thousandths that the definition's rule gives, worked out here over Python's whole numbers. Each finite answer d
 is then held against the exact bound 10^(d-1) <= v^p <= 10^(d+1), with v the exact fraction of the bits; a line that misses it is an error.
@@ -11,7 +11,7 @@ from math import inf, isnan
 import struct
 
 OFFSET = 90310
-POWER = {"D": 20000, "H": 10000, "L": 20000}
+POWER = {"d": 20000, "h": 10000, "L": 20000}
 
 
 @cache

@@ -13,6 +13,6 @@ def float_bits(m):
 
 for line in sys.stdin:
     command, answer = line.rstrip("\n").split(" => ", 1)
-    if command[0] in "mF":
+    if command[0] in "mFD":
         answer = re.sub(r"(?<![0-9a-f])[0-9a-f]{8}(?![0-9a-f])", float_bits, answer)
     print(f"{command} => {answer}")

@@ -1,7 +1,7 @@
 -- Frames and rings: the parts of a frame, and what pushing or emptying every channel's ring does to the lists that they store. Assumes nothing.
 use mathlib.Core.Path.{_≡_, refl, sym, ap, subst, _∙_}
 use mathlib.Core.Bool.{Bool, true, false, _&&_}
-use mathlib.Core.List.{List, [], _∷_, map}
+use mathlib.Core.List.{List, [], _∷_}
 use Prim.Native.Nat.{ℕ, zero, suc, _+_, _*_, _-_, _≤_, _<_}
 use native.Mathlib.Nat.{mul-le-mul, mul-le-mul-right, add-mul, one-mul}
 use native.Mathlib.Omega.{arith}
@@ -10,7 +10,7 @@ use lib.Ieee.{Float}
 use lib.ListN.{length, getD, replicate, getD-replicate, length-replicate}
 use borrow.Author.Tests.{le-leb, leb-true, eqb-true}
 use Rattle.numbers.specs.Listed.{listed}
-use Rattle.numbers.proofs.Listed.{length-listed, listed-same}
+use Rattle.numbers.proofs.Listed.{length-listed, listed-same, map-listed, listed-constant}
 use Rattle.numbers.proofs.Arrays.{Replaced}
 use Rattle.numbers.proofs.Signs.{clash}
 use Rattle.numbers.specs.declared.refusal.Refusal.{Refusal}
@@ -55,14 +55,22 @@ unfolding frameFits
 fits channels samples frame e = fits′ channels samples frame (leb 1 samples) (leb samples maxSamplesPerChannel) (eqb (length frame) (channels * samples)) refl refl refl e
 
 -- the end of a channel's part lies within the frame
-pub part-end : (channels samples c : ℕ) → c < channels → c * samples + samples ≤ channels * samples
+part-end : (channels samples c : ℕ) → c < channels → c * samples + samples ≤ channels * samples
 part-end channels samples c h = go (c * samples) ((c + 1) * samples) (add-mul c 1 samples) (one-mul samples) (mul-le-mul-right samples (omega arith))
   where
     go : (a b : ℕ) → b ≡ a + 1 * samples → 1 * samples ≡ samples → b ≤ channels * samples → a + samples ≤ channels * samples
     go a b e f l = omega arith
 
-pub product : (channels samples : ℕ) → channels ≤ maxChannels → samples ≤ maxSamplesPerChannel → channels * samples ≤ 3840
+product : (channels samples : ℕ) → channels ≤ maxChannels → samples ≤ maxSamplesPerChannel → channels * samples ≤ 3840
 product channels samples h k = mul-le-mul {n₂ = 8} {m₂ = 480} h k
+
+-- a channel's part lies within the frame, which is short
+pub record Ends (start samples all : ℕ) : Type 0 where
+  pub within : start + samples ≤ all
+  pub short : all ≤ 3840
+
+pub part-ends : (channels samples c : ℕ) → c < channels → channels ≤ maxChannels → samples ≤ maxSamplesPerChannel → Ends (c * samples) samples (channels * samples)
+part-ends channels samples c h k l = record { within = part-end channels samples c h; short = product channels samples k l }
 
 -- ---- lists of rings
 
@@ -73,16 +81,6 @@ push-listed cap f g (suc n) = ap (λ (l : List (List Level)). push cap (f 0) (g 
 
 abbrev none : List Level
 none = []
-
-empty-listed : (g : ℕ → List Level) (n : ℕ) → map (λ (r : List Level). none) (listed g n) ≡ listed (λ c. none) n
-unfolding listed
-empty-listed g zero = refl
-empty-listed g (suc n) = ap (λ (l : List (List Level)). [] ∷ l) (empty-listed (λ i. g (suc i)) n)
-
-all-empty : (n : ℕ) → listed (λ c. none) n ≡ replicate n none
-unfolding listed
-all-empty zero = refl
-all-empty (suc n) = ap (λ (l : List (List Level)). [] ∷ l) (all-empty n)
 
 -- ---- what the loops do
 
@@ -135,7 +133,7 @@ module _ (p r : ClippingPredictor) (good : Good p) (kept : Kept p r) where
     good = good-of (done .same-length) (λ c h. let g = good .each c h in let q = done .done c h in record { settings = good .settings; ring = q .good; capacity = q .capacity-is ∙ g .capacity; off = λ e. q .stored-is });
     view =
         view-of (λ c. none) (λ c h. done .done c h .stored-is)
-        ∙ (λ i. record { settings = p .settings; rings = sym (empty-listed (λ c. stored (ringAt p c)) (p .channels)) i });
+        ∙ (λ i. record { settings = p .settings; rings = sym (map-listed (λ (r : List Level). none) (λ c. stored (ringAt p c)) (p .channels)) i });
   }
 
 -- ---- a predictor with empty rings
@@ -153,7 +151,7 @@ made-fresh channels s ring good low high e =
         places = length-replicate maxChannels ring;
         each = λ c h. subst (GoodFor s) (sym (at c h)) (record { settings = good; ring = e .good; capacity = e .capacity-is; off = λ _. e .stored-is });
       };
-      view = λ i. record { settings = s; rings = (listed-same _ (λ c. none) channels (λ c h. ap stored (at c h) ∙ e .stored-is) ∙ all-empty channels) i };
+      view = λ i. record { settings = s; rings = (listed-same _ (λ c. none) channels (λ c h. ap stored (at c h) ∙ e .stored-is) ∙ listed-constant none channels) i };
     }
 
 -- ---- a predictor that is off: frames do not change it

@@ -132,8 +132,8 @@ fn answer_of(drop: u8, near: bool) -> Estimate
     Estimate::Drop(drop as i32, near)
 }
 
-fn frame_fits(channels: usize, samples: usize, frame: &[f32]) -> bool
-    requires { ⌜ channels ≤ maxChannels ⌝ }
+// Cause 9. A count of channels is at most 255 here by its type, so the product is one that fits.
+pub fn frame_fits(channels: u8, samples: usize, frame: &[f32]) -> bool
     ensures { λ r. ⌜ r ≡ frameFits channels samples (now (frame .entry)) ⌝ }
 {
     if samples < 1 {
@@ -142,7 +142,7 @@ fn frame_fits(channels: usize, samples: usize, frame: &[f32]) -> bool
     if MAX_SAMPLES_PER_CHANNEL < samples {
         return false;
     }
-    frame.len() == channels * samples
+    frame.len() == (channels as usize) * samples
 }
 
 // What an estimate is asked with, each number in its range.
@@ -215,7 +215,7 @@ impl ClippingPredictor {
         requires { ⌜ Good self ⌝ }
         ensures { λ r. ⌜ AnalyzedOf self «samples_per_channel» (now (frame .entry)) r ⌝ }
     {
-        if !frame_fits(self.channels, samples_per_channel, frame) {
+        if !frame_fits(self.channels as u8, samples_per_channel, frame) {
             return Analyzed {
                 answer: Outcome::Refused(Refusal::FrameSize),
                 predictor: self,

@@ -1,6 +1,5 @@
 // What one channel's ring leads to: the tests of the three modes on the metrics of its two windows, with the near mark of those that were reached.
 ghost use mathlib.Core.Path.{_≡_};
-ghost use mathlib.Core.Bool.{_||_};
 ghost use Prim.Native.Nat.{_+_, _≤_, min};
 ghost use mathlib.Core.Bool.{_&&_};
 ghost use lib.Dec.{ltb};
@@ -30,6 +29,7 @@ use levels::level::peak_level;
 use numbers::byte::larger;
 use numbers::byte::less;
 use numbers::byte::smaller;
+use numbers::truth::either;
 
 // What an estimate is asked with: the level, the default step, and the ends between which a new level is held.
 pub struct Asked {
@@ -61,12 +61,6 @@ fn compute_crest_factor(l: Level) -> Decibels
     ensures { λ r. ⌜ CrestFactor l r ⌝ }
 {
     difference(peak_level(l.max), mean_square_level(l.average))
-}
-
-fn either(a: bool, b: bool) -> bool
-    ensures { λ r. ⌜ r ≡ (a || b) ⌝ }
-{
-    if a { true } else { b }
 }
 
 fn predict_clipping_event(s: Settings, window: Level, reference: Level, a: Asked) -> Estimated

@@ -1,9 +1,8 @@
-pub mod Settings
 pub mod Clipped
 pub mod Ratios
-pub mod Errors
-pub mod Paths
-pub mod Kept
-pub mod Users
-pub mod Ceiling
-pub mod Starred
+pub mod ChannelLists
+pub mod Volumes
+pub mod Predictions
+pub mod Making
+pub mod Whole
+pub mod Answers

@@ -5,12 +5,14 @@ use mathlib.Core.List.{List}
 use Prim.Native.Nat.{ℕ}
 use lib.IntN.{pos}
 use lib.Ieee
-use lib.Ieee.{Float, binary32, lt, div, ofInt, ofBits}
+use lib.Ieee.{Float, binary32, lt, div, ofInt}
+use Rattle.mono_input_volume_controller.specs.Config.{defaults}
 use Rattle.input_volume_controller.specs.ClippedRatio.{mostClipped, clippedRatio}
 
 -- the default clipped_ratio_threshold
-abbrev pub tenth : Float
-tenth = ofBits binary32 0x3dcccccd
+unfoldable pub tenth : Float
+unfolding defaults
+tenth = defaults .«clipped_ratio_threshold»
 
 abbrev aboveTenth : ℕ → Bool
 aboveTenth n = lt tenth (div binary32 (ofInt binary32 (pos n)) (ofInt binary32 (pos 480)))
@@ -21,9 +23,9 @@ module _ (channels : ℕ) (frame : List Float) where
   by-most n e = ap aboveTenth e
 
   pub forty-eight : mostClipped channels 480 frame ≡ 48 → lt tenth (clippedRatio channels 480 frame) ≡ false
-  unfolding Ieee.ofBits Ieee.ofInt Ieee.div Ieee.lt
+  unfolding tenth defaults Ieee.ofBits Ieee.ofInt Ieee.div Ieee.lt
   forty-eight e = by-most 48 e ∙ refl
 
   pub forty-nine : mostClipped channels 480 frame ≡ 49 → lt tenth (clippedRatio channels 480 frame) ≡ true
-  unfolding Ieee.ofBits Ieee.ofInt Ieee.div Ieee.lt
+  unfolding tenth defaults Ieee.ofBits Ieee.ofInt Ieee.div Ieee.lt
   forty-nine e = by-most 49 e ∙ refl

@@ -1,4 +1,9 @@
-pub mod Config
 pub mod ClippedRatio
-pub mod SpeechLevel
-pub mod Mono
+pub mod Channels
+pub mod Control
+pub mod ControlCalls
+pub mod Controller
+pub mod Reply
+pub mod Frame
+pub mod Recommendation
+pub mod Calls

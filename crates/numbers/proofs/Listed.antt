@@ -1,12 +1,12 @@
 -- Laws of a list that is given by a function of the place. Assumes nothing.
 use mathlib.Core.Path.{_≡_, refl, ap, _∙_}
-use mathlib.Core.List.{List, _∷_}
+use mathlib.Core.List.{List, [], _∷_, map}
 use Prim.Native.Nat.{ℕ, zero, suc, _+_, _≤_, _<_, min}
 use native.Mathlib.Nat.{not-suc-le-zero, le-of-suc-le-suc}
 use native.Mathlib.Numerals.{add-one}
 use native.Mathlib.Omega.{arith}
 use native.Mathlib.Decide.{decLe}
-use lib.ListN.{length, getD, take, drop}
+use lib.ListN.{length, getD, take, drop, replicate}
 use lib.Seq.{take-all}
 use Rattle.numbers.specs.Listed.{listed}
 
@@ -54,3 +54,31 @@ module _ {A : Type 0} where
   slice-listed f zero n k h = take-listed f n k (omega arith) ∙ listed-same f (λ j. f (0 + j)) n (λ j _. ap f (omega arith))
   slice-listed f (suc d) n zero h = absurd (not-suc-le-zero {n = d} (omega arith))
   slice-listed f (suc d) n (suc k) h = slice-listed (λ j. f (suc j)) d n k (omega arith) ∙ listed-same (λ j. f (suc (d + j))) (λ j. f (suc d + j)) n (λ j _. ap f (omega arith))
+
+  -- what is left from the i-th on begins with it
+  pub drop-listed : (f : ℕ → A) (n i : ℕ) → i < n → drop i (listed f n) ≡ f i ∷ drop (i + 1) (listed f n)
+  unfolding listed
+  drop-listed f zero i h = absurd (not-suc-le-zero h)
+  drop-listed f (suc n) zero h = refl
+  drop-listed f (suc n) (suc i) h =
+      let e : suc (i + 1) ≡ suc i + 1 = omega arith in
+      drop-listed (λ j. f (suc j)) n i (le-of-suc-le-suc h) ∙ ap (λ (k : ℕ). f (suc i) ∷ drop k (listed f (suc n))) e
+
+  -- and past the end there is nothing left
+  pub drop-past : (f : ℕ → A) (n i : ℕ) → n ≤ i → drop i (listed f n) ≡ []
+  unfolding listed
+  drop-past f zero zero h = refl
+  drop-past f zero (suc i) h = refl
+  drop-past f (suc n) zero h = absurd (not-suc-le-zero h)
+  drop-past f (suc n) (suc i) h = drop-past (λ j. f (suc j)) n i (le-of-suc-le-suc h)
+
+  pub map-listed : {B : Type 0} (g : A → B) (f : ℕ → A) (n : ℕ) → map g (listed f n) ≡ listed (λ i. g (f i)) n
+  unfolding listed
+  map-listed g f zero = refl
+  map-listed {B} g f (suc n) = ap (λ (l : List B). g (f 0) ∷ l) (map-listed g (λ i. f (suc i)) n)
+
+  -- a list of one value throughout
+  pub listed-constant : (a : A) (n : ℕ) → listed (λ _. a) n ≡ replicate n a
+  unfolding listed
+  listed-constant a zero = refl
+  listed-constant a (suc n) = ap (λ (l : List A). a ∷ l) (listed-constant a n)

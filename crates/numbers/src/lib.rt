@@ -1,6 +1,7 @@
-// What several crates share: the natural number of an i32, its sign and size, bytes, words, and the causes of a refusal.
+// What several crates share: the natural number of an i32, its sign and size, bytes, words, truth values, and the causes of a refusal.
 pub mod byte;
 pub mod natural;
 pub mod refusal;
 pub mod sign;
+pub mod truth;
 pub mod word;

@@ -11,12 +11,23 @@ pub fn number(x: i32) {
     if x < 0 {
         text(b"-");
     }
-    io::print_decimal(STDOUT_FILENO, numbers::sign::size(x) as u64);
+    count(numbers::sign::size(x) as u64);
+}
+
+pub fn count(n: u64) {
+    io::print_decimal(STDOUT_FILENO, n);
+}
+
+// A mark stands behind the answer.
+pub fn near(near: bool) {
+    if near {
+        text(b" n");
+    }
 }
 
 pub fn refusal(cause: Refusal) {
     text(b"! ");
-    io::print_decimal(STDOUT_FILENO, numbers::refusal::number(cause) as u64);
+    count(numbers::refusal::number(cause) as u64);
 }
 
 pub fn float(x: f32) {

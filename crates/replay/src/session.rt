@@ -1,7 +1,9 @@
-// What is kept from line to line, a ring and a predictor, and the answer to one line.
+// What is kept from line to line, a ring, a predictor and a controller, and the answer to one line.
 ghost use Rattle.clipping_predictor_level_buffer.specs.Ring.{Good as GoodRing};
 ghost use Rattle.clipping_predictor.specs.Predictor.{Good as GoodPredictor};
+ghost use Rattle.input_volume_controller.specs.Controller.{Good as GoodController};
 ghost use Rattle.replay.specs.Session.{Good};
+use crate::calls;
 use crate::print;
 use crate::text;
 use clipping_predictor::ClippingPredictor;
@@ -13,18 +15,23 @@ use clipping_predictor_level_buffer::Metrics;
 use clipping_predictor_level_buffer::Stored;
 use clipping_predictor_level_buffer::level::Level;
 use gain_map::VolumeUpdate;
-use input_volume_controller::speech_level::RmsError;
-use input_volume_controller::speech_level::SpeechLevel;
-use input_volume_controller::speech_level::get_speech_level_rms_error_db;
+use input_volume_controller::InputVolumeController;
+use mono_input_volume_controller::config::default_config;
+use mono_input_volume_controller::speech_level::RmsError;
+use mono_input_volume_controller::speech_level::SpeechLevel;
+use mono_input_volume_controller::speech_level::get_speech_level_rms_error_db;
 use numbers::refusal::Outcome;
 use numbers::refusal::Refusal;
 
 pub struct Session {
     pub ring: ClippingPredictorLevelBuffer,
     pub predictor: ClippingPredictor,
+    pub controller: InputVolumeController,
+    // whether all of the controller's state is written after each call
+    pub full: bool,
 }
 
-// A ring of capacity 1, and a predictor that is off.
+// A ring of capacity 1, a predictor that is off, and a controller of one channel with the default settings.
 pub fn fresh() -> Session
     ensures { λ r. ⌜ Good r ⌝ }
 {
@@ -41,23 +48,51 @@ pub fn fresh() -> Session
     let created = clipping_predictor::create_clipping_predictor(1, config);
     let ring = made.ring;
     let predictor = created.predictor;
-    Session { ring, predictor }
+    let made_controller = InputVolumeController::new(1, default_config());
+    let controller = made_controller.controller;
+    Session {
+        ring,
+        predictor,
+        controller,
+        full: false,
+    }
 }
 
 fn with_ring(session: Session, ring: ClippingPredictorLevelBuffer) -> Session
     requires { ⌜ Good session × GoodRing ring ⌝ }
     ensures { λ r. ⌜ Good r ⌝ }
 {
-    let predictor = session.predictor;
-    Session { ring, predictor }
+    let mut next = session;
+    next.ring = ring;
+    next
 }
 
 fn with_predictor(session: Session, predictor: ClippingPredictor) -> Session
     requires { ⌜ Good session × GoodPredictor predictor ⌝ }
     ensures { λ r. ⌜ Good r ⌝ }
 {
-    let ring = session.ring;
-    Session { ring, predictor }
+    let mut next = session;
+    next.predictor = predictor;
+    next
+}
+
+fn with_controller(session: Session, controller: InputVolumeController) -> Session
+    requires { ⌜ Good session × GoodController controller ⌝ }
+    ensures { λ r. ⌜ Good r ⌝ }
+{
+    let mut next = session;
+    next.controller = controller;
+    next
+}
+
+fn with_full(session: Session) -> Session
+    requires { ⌜ Good session ⌝ }
+    ensures { λ r. ⌜ Good r ⌝ }
+{
+    let mut next = session;
+    next.full = true;
+    print::text(b"ok");
+    next
 }
 
 // ---- numbers alone
@@ -90,7 +125,7 @@ fn speech_error(s: &[u8]) {
     let most = text::decimal(s, least.next);
     let min = text::signed(least);
     let max = text::signed(most);
-    if !input_volume_controller::config::both_in_range(-90, 30, min, max) {
+    if !mono_input_volume_controller::config::both_in_range(-90, 30, max, min) {
         print::refusal(Refusal::TargetRange);
         return;
     }
@@ -283,13 +318,6 @@ fn predictor_reset(session: Session) -> Session
     with_predictor(session, next)
 }
 
-// A near estimate has an `n` behind it.
-fn print_near(near: bool) {
-    if near {
-        print::text(b" n");
-    }
-}
-
 fn predictor_estimated(predictor: ClippingPredictor, s: &[u8])
     requires { ⌜ GoodPredictor predictor ⌝ }
 {
@@ -309,11 +337,11 @@ fn predictor_estimated(predictor: ClippingPredictor, s: &[u8])
         Estimate::Refused(cause) => print::refusal(cause),
         Estimate::Nothing(near) => {
             print::text(b"none");
-            print_near(near);
+            print::near(near);
         }
         Estimate::Drop(drop, near) => {
             print::number(drop);
-            print_near(near);
+            print::near(near);
         }
     }
 }
@@ -324,10 +352,10 @@ fn number_line(letter: u8, s: &[u8]) {
     match letter {
         b'S' => volume_step(s),
         b'Q' => speech_error(s),
-        b'W' => print::number(levels::rounding::round(float(s))),
-        b'A' => print::float(levels::parts::magnitude(float(s))),
-        b'D' => print::decibels(levels::level::peak_level(float(s))),
-        b'H' => print::decibels(levels::level::mean_square_level(float(s))),
+        b'w' => print::number(levels::rounding::round(float(s))),
+        b'a' => print::float(levels::parts::magnitude(float(s))),
+        b'd' => print::decibels(levels::level::peak_level(float(s))),
+        b'h' => print::decibels(levels::level::mean_square_level(float(s))),
         b'L' => print::decibels(levels::level::float_s16_to_dbfs(float(s))),
         _ => print::text(b"unknown"),
     }
@@ -365,6 +393,15 @@ fn predictor_line(letter: u8, session: Session, s: &[u8]) -> Session
     }
 }
 
+fn controller_line(letter: u8, session: Session, s: &[u8]) -> Session
+    requires { ⌜ Good session ⌝ }
+    ensures { λ r. ⌜ Good r ⌝ }
+{
+    let controller = session.controller;
+    let next = calls::answer(letter, controller, s, session.full);
+    with_controller(session, next)
+}
+
 // The answer to one line, by its first letter.
 pub fn answer(session: Session, s: &[u8]) -> Session
     requires { ⌜ Good session ⌝ }
@@ -377,6 +414,8 @@ pub fn answer(session: Session, s: &[u8]) -> Session
     match letter {
         b'G' | b'g' | b'z' | b'm' => ring_line(letter, session, s),
         b'P' | b'F' | b'X' | b'E' => predictor_line(letter, session, s),
+        b'N' | b'A' | b'B' | b'R' | b'I' | b'C' | b'D' => controller_line(letter, session, s),
+        b'V' => with_full(session),
         _ => {
             number_line(letter, s);
             session

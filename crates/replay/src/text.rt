@@ -24,6 +24,14 @@ pub fn line_end(s: &[u8], at: usize) -> usize
     i
 }
 
+// Where the line after a line feed starts.
+pub fn line_after(s: &[u8], end: usize) -> usize
+    requires { ⌜ end < length (now s) ⌝ }
+    ensures { λ r. ⌜ (end < r) × (r ≤ length (now (s .entry))) ⌝ }
+{
+    end + 1
+}
+
 // The value of a digit, and 16 for what is none.
 fn digit(c: u8) -> u64
     ensures { λ r. ⌜ r ≤ 16 ⌝ }
@@ -93,10 +101,30 @@ pub fn decimal(s: &[u8], at: usize) -> Field
     digits(s, at, 10)
 }
 
+// A hexadecimal number.
+pub fn hexadecimal(s: &[u8], at: usize) -> Field
+    ensures { λ r. ⌜ r .size < 2 ^ 45 ⌝ }
+{
+    digits(s, at, 16)
+}
+
 // The bits of a float, as eight hexadecimal digits.
 pub fn bits(s: &[u8], at: usize) -> u32 {
     let f = digits(s, at, 16);
     (f.size % 0x1_0000_0000) as u32
+}
+
+// The float whose bits a number is.
+pub fn float(f: Field) -> f32 {
+    levels::bits::from_bits((f.size % 0x1_0000_0000) as u32)
+}
+
+// A number without its sign; one below 0 is larger than any that is taken.
+pub fn natural(f: Field) -> usize {
+    if f.negative {
+        return 0xffff_ffff;
+    }
+    f.size as usize
 }
 
 // A number as an i32, held to its range.

@@ -1,19 +1,16 @@
 -- `replay::run` goes from line to line within the text, and keeps the session in good order. Assumes nothing.
 use Prim.Native.Nat.{_≤_, _-_}
 use lib.ListN.{length}
-use borrow.Author.Needs.{needs}
 use Rattle.replay.specs.Session.{Good}
+use borrow.Author.Needs.{needs}
 use Rattle.replay.proofs.run.Statement.{statement}
 use Rattle.replay.proofs.run.Tie as tie
 
 abbrev Inv-loop : tie.InvT-loop
-Inv-loop s session₀ at₀ t6 t7 session at = (at ≤ length s) × Good session
+Inv-loop s session₀ at₀ t7 t8 session at = (at ≤ length s) × Good session
 
 abbrev μ-loop : tie.MeasureT-loop
-μ-loop s session₀ at₀ t6 t7 session at = length s - at
-
-fresh-requires : tie.Need-fresh-requires Inv-loop μ-loop
-fresh-requires c κs = search needs
+μ-loop s session₀ at₀ t7 t8 session at = length s - at
 
 loop-holds : tie.Need-loop-holds Inv-loop μ-loop
 loop-holds c = search needs
@@ -48,8 +45,8 @@ slice-aggregate-text-2 c = search needs
 text-requires-3 : tie.Need-text-requires-3 Inv-loop μ-loop
 text-requires-3 c κs = search needs
 
-add-at : tie.Need-add-at Inv-loop μ-loop
-add-at c = search needs
+line-after-requires : tie.Need-line-after-requires Inv-loop μ-loop
+line-after-requires c κs = search needs
 
 loop-less : tie.Need-loop-less Inv-loop μ-loop
 loop-less c = search needs
@@ -69,7 +66,6 @@ run-spec =
     (tie.spec
     Inv-loop
     μ-loop
-    fresh-requires
     loop-holds
     line-end-requires
     sub-line
@@ -81,7 +77,7 @@ run-spec =
     answer-requires
     slice-aggregate-text-2
     text-requires-3
-    add-at
+    line-after-requires
     loop-less
     loop-again
     returns

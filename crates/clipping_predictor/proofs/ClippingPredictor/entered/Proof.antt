@@ -7,7 +7,7 @@ use Rattle.numbers.proofs.Arrays.{Replaced, replaced-none, replaced-more}
 use Rattle.clipping_predictor_level_buffer.specs.Level.{levelOf}
 use Rattle.clipping_predictor_level_buffer.specs.Ring.{Pushed}
 use Rattle.clipping_predictor.specs.Predictor.{noRing}
-use Rattle.clipping_predictor.proofs.Frames.{Fits, fits, part-end, product, Kept, PushedAt, all-pushed}
+use Rattle.clipping_predictor.proofs.Frames.{Fits, fits, Ends, part-ends, Kept, PushedAt, all-pushed}
 use Rattle.clipping_predictor.proofs.ClippingPredictor.entered.Statement.{statement}
 use Rattle.clipping_predictor.proofs.ClippingPredictor.entered.Tie as tie
 
@@ -23,18 +23,10 @@ below c = omega (arith, c .before .before .before .pre .0 .channels-high)
 fitting : (c : tie.In-loop Inv-loop μ-loop) → let s = c .before .before .before .args in Fits (s .self .channels) (s .samples) (s .frame .now)
 fitting c = fits _ _ _ (c .before .before .before .pre .2)
 
--- the channel's part lies within the frame, which is short
-record Ends (start samples all : ℕ) : Type 0 where
-  within : start + samples ≤ all
-  short : all ≤ 3840
-
 ends : (c : tie.In-loop Inv-loop μ-loop) → let s = c .before .before .before .args in Ends (c .before .loop .c * s .samples) (s .samples) (s .self .channels * s .samples)
 ends c =
     let s = c .before .before .before .args in
-    record {
-      within = part-end (s .self .channels) (s .samples) (c .before .loop .c) (omega arith);
-      short = product (s .self .channels) (s .samples) (c .before .before .before .pre .0 .channels-high) (fitting c .most);
-    }
+    part-ends (s .self .channels) (s .samples) (c .before .loop .c) (omega arith) (c .before .before .before .pre .0 .channels-high) (fitting c .most)
 
 size : (c : tie.In-loop Inv-loop μ-loop) → let s = c .before .before .before .args in c .before .loop .c * s .samples + s .samples - c .before .loop .c * s .samples ≡ s .samples
 size c = omega arith

@@ -5,7 +5,7 @@ use native.Mathlib.Omega.{arith}
 use borrow.Author.Needs.{needs}
 use lib.ListN.{length, take, drop, length-take, length-drop}
 use Rattle.clipping_predictor.specs.Predictor.{partOf}
-use Rattle.clipping_predictor.proofs.Frames.{Fits, fits, part-end, product}
+use Rattle.clipping_predictor.proofs.Frames.{Fits, fits, Ends, part-ends}
 use Rattle.input_volume_controller.specs.ClippedRatio.{clippedIn}
 use Rattle.input_volume_controller.proofs.Clipped.{mostBefore, one-more, all}
 use Rattle.input_volume_controller.proofs.clipped_ratio.most_clipped.Statement.{statement}
@@ -20,18 +20,10 @@ abbrev μ-loop : tie.MeasureT-loop
 fitting : (c : tie.In-loop Inv-loop μ-loop) → let s = c .before .before .before .args in Fits (s .channels) (s .samples) (s .frame .now)
 fitting c = fits _ _ _ (c .before .before .before .pre .1)
 
--- the channel's part lies within the frame, which is short
-record Ends (start samples all : ℕ) : Type 0 where
-  within : start + samples ≤ all
-  short : all ≤ 3840
-
 ends : (c : tie.In-loop Inv-loop μ-loop) → let s = c .before .before .before .args in Ends (c .before .loop .c * s .samples) (s .samples) (s .channels * s .samples)
 ends c =
     let s = c .before .before .before .args in
-    record {
-      within = part-end (s .channels) (s .samples) (c .before .loop .c) (omega arith);
-      short = product (s .channels) (s .samples) (c .before .before .before .pre .0) (fitting c .most);
-    }
+    part-ends (s .channels) (s .samples) (c .before .loop .c) (omega arith) (c .before .before .before .pre .0) (fitting c .most)
 
 size : (c : tie.In-loop Inv-loop μ-loop) → let s = c .before .before .before .args in c .before .loop .c * s .samples + s .samples - c .before .loop .c * s .samples ≡ s .samples
 size c = omega arith

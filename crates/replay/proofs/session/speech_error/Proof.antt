@@ -2,7 +2,7 @@
 use mathlib.Core.Path.{sym, _∙_}
 use borrow.Author.Needs.{needs}
 use borrow.Author.Tests.{not-false}
-use Rattle.input_volume_controller.proofs.Settings.{targets-good}
+use Rattle.mono_input_volume_controller.proofs.Settings.{targets-good}
 use Rattle.replay.proofs.session.speech_error.Statement.{statement}
 use Rattle.replay.proofs.session.speech_error.Tie as tie
 

@@ -1,0 +1,69 @@
+-- The channels of a controller: what the loops over them do to the list of their states. Assumes nothing.
+use mathlib.Core.Path.{_≡_, refl, sym, ap, subst, _∙_}
+use Prim.Native.Nat.{ℕ, zero, suc, _+_, _≤_, _<_}
+use native.Mathlib.Nat.{not-suc-le-zero}
+use native.Mathlib.Omega.{arith}
+use lib.ListN.{length, getD, drop, replicate, getD-replicate, length-replicate}
+use Rattle.numbers.specs.Listed.{listed}
+use Rattle.numbers.proofs.Listed.{length-listed, listed-same, drop-listed, drop-past, map-listed, listed-constant}
+use Rattle.numbers.proofs.Arrays.{Replaced}
+use Rattle.clipping_predictor.specs.Predictor.{maxChannels}
+use Rattle.mono_input_volume_controller.specs.declared.mono.MonoInputVolumeController.{MonoInputVolumeController}
+use Rattle.input_volume_controller.specs.declared.channels.ChannelCall.{ChannelCall}
+use Rattle.input_volume_controller.specs.declared.channels.Channels.{Channels}
+use Rattle.input_volume_controller.specs.declared.channels.Aggregate.{Aggregate}
+use Rattle.mono_input_volume_controller.specs.MonoState as Mono
+use Rattle.input_volume_controller.specs.Channels.{noChannel, channelAt, channelsOf, Good, Becomes, called, eachCalled, lowerOf, aggregateFrom, aggregateOf}
+
+pub count-is : (c : Channels) → length (channelsOf c) ≡ c .count
+unfolding channelsOf
+count-is c = length-listed (channelAt c) (c .count)
+
+-- ---- one call of every channel
+
+abbrev pub CalledAt : ChannelCall → ℕ → MonoInputVolumeController → MonoInputVolumeController → Type 0
+CalledAt call channel old new = Mono.Becomes (called call old) new
+
+pub all-called : (call : ChannelCall) (c r : Channels) → Good c → r .count ≡ c .count → Replaced noChannel (CalledAt call) (c .count) (c .items) (r .items) → Becomes (eachCalled call (channelsOf c)) r
+unfolding channelsOf
+all-called call c r good e done = record {
+  good = record {
+    low = omega (arith, e, good .low);
+    high = omega (arith, e, good .high);
+    places = done .same-length ∙ good .places;
+    each = λ i h. done .done i (omega (arith, e)) .good;
+  };
+  is =
+      ap (listed (channelAt r)) e ∙ listed-same (channelAt r) (λ i. called call (channelAt c i)) (c .count) (λ i h. done .done i h .is)
+      ∙ sym (map-listed (called call) (channelAt c) (c .count));
+}
+
+-- ---- fresh channels
+
+pub all-fresh : (count : ℕ) (m said : MonoInputVolumeController) → 1 ≤ count → count ≤ maxChannels → Mono.Becomes said m → Becomes (replicate count said) (record { items = replicate maxChannels m; count = count })
+unfolding channelsOf
+all-fresh count m said low high b =
+    let at : (i : ℕ) → i < count → getD (replicate maxChannels m) i noChannel ≡ m = λ i h. getD-replicate maxChannels i m noChannel (omega arith) in
+    record {
+      good = record { low = low; high = high; places = length-replicate maxChannels m; each = λ i h. subst Mono.Good (sym (at i h)) (b .good) };
+      is = listed-same _ (λ i. said) count (λ i h. at i h ∙ b .is) ∙ listed-constant said count;
+    }
+
+-- ---- the lowest volume
+
+starts : (f : ℕ → MonoInputVolumeController) (n : ℕ) → 1 ≤ n → aggregateFrom (record { volume = f 0 .volume; channel = 0 }) 1 (drop 1 (listed f n)) ≡ aggregateOf (listed f n)
+unfolding listed aggregateOf
+starts f zero h = absurd (not-suc-le-zero h)
+starts f (suc n) h = refl
+
+module _ (f : ℕ → MonoInputVolumeController) (n : ℕ) where
+  pub aggregate-starts : 1 ≤ n → aggregateFrom (record { volume = f 0 .volume; channel = 0 }) 1 (drop 1 (listed f n)) ≡ aggregateOf (listed f n)
+  aggregate-starts h = starts f n h
+
+  pub aggregate-goes-on : (a : Aggregate) (i : ℕ) → i < n → aggregateFrom (lowerOf a (f i .volume) i) (i + 1) (drop (i + 1) (listed f n)) ≡ aggregateFrom a i (drop i (listed f n))
+  unfolding aggregateFrom
+  aggregate-goes-on a i h = sym (ap (aggregateFrom a i) (drop-listed f n i h))
+
+  pub aggregate-ends : (a : Aggregate) (i : ℕ) → n ≤ i → aggregateFrom a i (drop i (listed f n)) ≡ a
+  unfolding aggregateFrom
+  aggregate-ends a i h = ap (aggregateFrom a i) (drop-past f n i h)

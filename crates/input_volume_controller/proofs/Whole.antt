@@ -1,0 +1,131 @@
+-- The controller as a whole, as a value: its two parts, and the ways through a frame. Assumes nothing.
+use mathlib.Core.Path.{_≡_, refl, sym, ap, subst, _∙_}
+use mathlib.Core.Bool.{Bool, true, false, _||_}
+use mathlib.Core.List.{List, [], _∷_}
+use Prim.Native.Nat.{ℕ, zero, suc, _≤_, _<_, max}
+use native.Mathlib.Nat.{not-suc-le-zero, le-of-suc-le-suc}
+use native.Mathlib.Omega.{arith}
+use lib.Dec.{ltb}
+use borrow.Author.Tests.{lt-ltb, le-ltb}
+use lib.ListN.{length, length-map, getD}
+use Rattle.numbers.specs.declared.refusal.Refusal.{Refusal}
+use Rattle.numbers.specs.Listed.{listed}
+use Rattle.numbers.proofs.Listed.{length-listed, getD-listed}
+use Rattle.clipping_predictor_level_buffer.specs.declared.level.Level.{Level}
+use Rattle.clipping_predictor_level_buffer.specs.declared.Stored.the-variants.{Missing}
+use Rattle.clipping_predictor_level_buffer.specs.Ring.{stored, storedAt}
+use Rattle.clipping_predictor.specs.declared.modes.Estimated.{Estimated}
+use Rattle.clipping_predictor.specs.declared.ClippingPredictor.{ClippingPredictor}
+use Rattle.clipping_predictor.specs.Predictor.{Predictor, ringAt, pushEach, enteredIf, emptied}
+use Rattle.clipping_predictor.specs.Predictor as PredictorOf
+use Rattle.input_volume_controller.specs.declared.volume_control.VolumeControl.{VolumeControl}
+use Rattle.input_volume_controller.specs.declared.InputVolumeController.{InputVolumeController}
+use Rattle.input_volume_controller.specs.declared.Analysis.the-variants.{Accepted, Refused}
+use Rattle.input_volume_controller.specs.declared.Analyzed.{Analyzed}
+use Rattle.input_volume_controller.specs.Control.{Control, controlOf}
+use Rattle.input_volume_controller.specs.Control as ControlOf
+use Rattle.input_volume_controller.specs.ControlCalls.{lowerChannels, oneFrameMore}
+use Rattle.input_volume_controller.specs.Controller.{Controller, viewOf, Good, Becomes}
+use Rattle.input_volume_controller.specs.Reply.{mark, Stepped}
+use Rattle.input_volume_controller.specs.Frame.{askedOf, predictedBy, handled, unlessWaiting}
+use Rattle.input_volume_controller.specs.Calls.{step, Framed}
+use Rattle.input_volume_controller.proofs.ChannelLists.{count-is}
+
+-- ---- its two parts
+
+-- how many channels the parts have, read from the values
+pub control-count : (c : VolumeControl) → length (controlOf c .channels) ≡ c .channels .count
+unfolding controlOf
+control-count c = count-is (c .channels)
+
+predictor-count : (p : ClippingPredictor) → length (PredictorOf.viewOf p .rings) ≡ p .channels
+unfolding PredictorOf.viewOf
+predictor-count p = length-listed _ (p .channels)
+
+-- as many channels as before
+pub record SameCount (self : InputVolumeController) (c : Control) (p : Predictor) : Type 0 where
+  pub channels : length (c .channels) ≡ length (controlOf (self .control) .channels)
+  pub rings : length (p .rings) ≡ length (PredictorOf.viewOf (self .predictor) .rings)
+
+pub whole : (self : InputVolumeController) (c : VolumeControl) (p : ClippingPredictor) (said : Control) (said-p : Predictor) → Good self → ControlOf.Becomes said c → PredictorOf.Good p → PredictorOf.viewOf p ≡ said-p
+    → SameCount self said said-p → Becomes (record { control = said; predictor = said-p }) (record { control = c; predictor = p })
+unfolding viewOf
+whole self c p said said-p good b g e n = record {
+  good = record {
+    control = b .good;
+    predictor = g;
+    counts =
+        sym (predictor-count p) ∙ ap (λ (x : Predictor). length (x .rings)) e ∙ n .rings ∙ predictor-count (self .predictor) ∙ good .counts ∙ sym (control-count (self .control)) ∙ sym (n .channels)
+        ∙ sym (ap (λ (x : Control). length (x .channels)) (b .is)) ∙ control-count c;
+  };
+  is = λ i. record { control = b .is i; predictor = e i };
+}
+
+-- with the predictor as it was
+pub with-control : (self : InputVolumeController) (c : VolumeControl) (said : Control) → Good self → ControlOf.Becomes said c → length (said .channels) ≡ length (controlOf (self .control) .channels)
+    → Becomes (record { control = said; predictor = PredictorOf.viewOf (self .predictor) }) (record { control = c; predictor = self .predictor })
+with-control self c said good b n = whole self c (self .predictor) said _ good b (good .predictor) refl (record { channels = n; rings = refl })
+
+-- ---- the rings
+
+pushed-count : (capacity : ℕ) (levels : List Level) (rings : List (List Level)) → length (pushEach capacity levels rings) ≡ length rings
+unfolding pushEach
+pushed-count capacity levels [] = refl
+pushed-count capacity [] (r ∷ rings) = refl
+pushed-count capacity (l ∷ levels) (r ∷ rings) = rw (pushed-count capacity levels rings)
+
+pub entered-count : (samples : ℕ) (lent : List _) (p : Predictor) → length (enteredIf true samples lent p .rings) ≡ length (p .rings)
+entered-count samples lent p = pushed-count _ _ (p .rings)
+
+abbrev none : List Level
+none = []
+
+pub emptied-count : (p : Predictor) → length (emptied p .rings) ≡ length (p .rings)
+emptied-count p = length-map (p .rings) (λ (r : List Level). none)
+
+getD-past : {A : Type 0} (f : ℕ → A) (n i : ℕ) (d : A) → n ≤ i → getD (listed f n) i d ≡ d
+unfolding listed
+getD-past f zero i d h = refl
+getD-past f (suc n) zero d h = absurd (not-suc-le-zero h)
+getD-past f (suc n) (suc i) d h = getD-past (λ j. f (suc j)) n i d (le-of-suc-le-suc h)
+
+-- no record lies in the ring of a channel that is not there
+pub stored-none : (p : ClippingPredictor) (channel i : ℕ) → p .channels ≤ channel → Missing ≡ storedAt (getD (PredictorOf.viewOf p .rings) channel []) i
+unfolding PredictorOf.viewOf storedAt
+stored-none p channel i h = ap (λ (l : List Level). storedAt l i) (sym (getD-past (λ c. stored (ringAt p c)) (p .channels) channel [] h))
+
+pub stored-some : (p : ClippingPredictor) (channel i : ℕ) → channel < p .channels → storedAt (stored (ringAt p channel)) i ≡ storedAt (getD (PredictorOf.viewOf p .rings) channel []) i
+unfolding PredictorOf.viewOf
+stored-some p channel i h = ap (λ (l : List Level). storedAt l i) (sym (getD-listed (λ c. stored (ringAt p c)) (p .channels) channel [] h))
+
+-- ---- an accepted frame
+
+not-refused : (near : Bool) (cause : Refusal) → Accepted near ≡ Refused cause → ⊥
+not-refused near cause e = let z : _≡_ {A = ℕ} 0 1 = cc in omega arith
+
+pub framed : (s : Stepped) (near : Bool) (state : Controller) (r : InputVolumeController) → s ≡ record { reply = mark near; state = state } → Becomes state r → Framed s (record { answer = Accepted near; controller = r })
+framed s near state r e b = record {
+  good = b .good;
+  reply = ap (λ (x : Stepped). x .reply) (sym e);
+  view = b .is ∙ ap (λ (x : Stepped). x .state) (sym e);
+  accepted = not-refused near;
+}
+
+pub framed-same : {s t : Stepped} {r : Analyzed} → s ≡ t → Framed s r → Framed t r
+framed-same {r = r} e f = subst (λ (x : Stepped). Framed x r) e f
+
+-- a frame within the wait, and after it
+module _ (clipped : Bool) (since wait : ℕ) (c : Controller) where
+  pub is-waiting : since < wait → unlessWaiting (ltb since wait) clipped c ≡ record { reply = mark false; state = record { control = oneFrameMore (c .control); predictor = c .predictor } }
+  is-waiting h = rw (lt-ltb since wait h)
+
+  pub not-waiting : wait ≤ since → unlessWaiting (ltb since wait) clipped c ≡ handled clipped (predictedBy (askedOf (c .control)) (c .predictor)) c
+  not-waiting h = rw (le-ltb since wait h)
+
+module _ (clipped : Bool) (e : Estimated) (c : Controller) where
+  pub not-handled : (clipped || ltb 0 (e .drop)) ≡ false → handled clipped e c ≡ record { reply = mark (e .near); state = c }
+  not-handled t = rw t
+
+  pub is-handled : (clipped || ltb 0 (e .drop)) ≡ true
+      → handled clipped e c ≡ record { reply = mark (e .near); state = record { control = lowerChannels (max (c .control .settings .step) (e .drop)) (c .control); predictor = emptied (c .predictor) } }
+  is-handled t = rw t

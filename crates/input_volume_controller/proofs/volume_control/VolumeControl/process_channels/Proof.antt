@@ -1,0 +1,39 @@
+-- `VolumeControl::process_channels` meets its contract. Assumes nothing.
+use mathlib.Core.Path.{_≡_, ap, _∙_}
+use Rattle.numbers.proofs.Signs.{read, again}
+use Rattle.mono_input_volume_controller.specs.declared.speech_level.RmsError.{RmsError}
+use Rattle.input_volume_controller.specs.declared.channels.ChannelCall.the-variants.{Process}
+use Rattle.mono_input_volume_controller.specs.SpeechLevel.{rmsErrorOf}
+use Rattle.input_volume_controller.specs.Control.{controlOf, eachChannel}
+use Rattle.input_volume_controller.specs.ControlCalls.{processChannels, aggregated}
+use Rattle.input_volume_controller.proofs.Volumes.{then, target-small}
+use borrow.Author.Needs.{needs}
+use Rattle.input_volume_controller.proofs.volume_control.VolumeControl.process_channels.Statement.{statement}
+use Rattle.input_volume_controller.proofs.volume_control.VolumeControl.process_channels.Tie as tie
+
+-- the targets as the machine reads them back
+low : (c : tie.Start) → read (c .args .self .settings .«min_target») ≡ c .args .self .settings .«min_target»
+low c = let t = c .pre .settings .targets in again _ (target-small _ (t .min-low) (t .min-high))
+
+high : (c : tie.Start) → read (c .args .self .settings .«max_target») ≡ c .args .self .settings .«max_target»
+high c = let t = c .pre .settings .targets in again _ (target-small _ (t .max-low) (t .max-high))
+
+get-speech-level-rms-error-db-requires : tie.Need-get-speech-level-rms-error-db-requires
+get-speech-level-rms-error-db-requires c κs = let s = c .before .before in rw (low s, high s) (s .pre .settings .targets)
+
+each-requires : tie.Need-each-requires
+each-requires c κs = search needs
+
+aggregate-channel-levels-requires : tie.Need-aggregate-channel-levels-requires
+aggregate-channel-levels-requires c κs = search needs
+
+returns : tie.Need-returns
+unfolding processChannels controlOf
+returns c =
+    let s = c .before .before .before .before .before in
+    let e = c .before .each .ensures in
+    let error = c .before .before .get-speech-level-rms-error-db .ensures ∙ (λ i. rmsErrorOf (s .args .speech-level) (low s i) (high s i)) in
+    then aggregated (record { good = e .good; is = e .is ∙ ap (λ (x : RmsError). eachChannel (Process x (s .args .speech-probability)) (controlOf (s .args .self))) error }) (c .aggregate-channel-levels .ensures)
+
+pub process-channels-spec : {M : Type 1} → statement M
+process-channels-spec = tie.close (tie.spec get-speech-level-rms-error-db-requires each-requires aggregate-channel-levels-requires returns)

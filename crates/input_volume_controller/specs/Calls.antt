@@ -1,0 +1,72 @@
+-- Document 01: the four calls on a controller, one step, and a run over a list of calls. Definitions only.
+use mathlib.Core.Path.{_≡_}
+use mathlib.Core.Bool.{Bool}
+use mathlib.Core.List.{List, [], _∷_}
+use Prim.Native.Nat.{ℕ}
+use lib.IntN.{ℤ}
+use lib.Ieee.{Float}
+use Rattle.numbers.specs.declared.refusal.Refusal.{Refusal}
+use Rattle.clipping_predictor_level_buffer.specs.declared.level.Level.{Level}
+use Rattle.mono_input_volume_controller.specs.declared.speech_level.SpeechLevel.{SpeechLevel}
+use Rattle.input_volume_controller.specs.declared.Analysis.the-variants.{Refused}
+use Rattle.input_volume_controller.specs.declared.Analyzed.{Analyzed}
+use Rattle.input_volume_controller.specs.declared.InputVolumeController.{InputVolumeController}
+use Rattle.input_volume_controller.specs.ControlCalls.{initialize, switchCapture}
+use Rattle.input_volume_controller.specs.Controller.{Controller, viewOf, Good}
+use Rattle.input_volume_controller.specs.Reply.{Reply, done, analysisSays, Stepped}
+use Rattle.input_volume_controller.specs.Frame.{analyzeInputAudio}
+use Rattle.input_volume_controller.specs.Recommendation.{recommendInputVolume}
+
+pub data Call : Type 0 where
+  -- the applied volume, the samples per channel, and the lent samples: `analyze_input_audio`
+  frame : ℤ → ℕ → List Float → Call
+  -- the speech probability and level: `recommend_input_volume`
+  recommendation : Float → SpeechLevel → Call
+  -- `initialize`
+  initialise : Call
+  -- `handle_capture_output_used_change`
+  captureSwitch : Bool → Call
+
+abbrev pub step : Controller → Call → Stepped
+step c (frame volume samples lent) = analyzeInputAudio volume samples lent c
+step c (recommendation probability level) = recommendInputVolume probability level c
+step c initialise = record { reply = done; state = record { control = initialize (c .control); predictor = c .predictor } }
+step c (captureSwitch on) = record { reply = done; state = record { control = switchCapture on (c .control); predictor = c .predictor } }
+
+-- "In a list each call gets the state the last one handed back"
+unfoldable pub after : Controller → List Call → Controller
+after c [] = c
+after c (call ∷ calls) = after (step c call .state) calls
+
+-- "An answer in demand 3 is a frame's mark or refusal number, a recommendation's volume or none, and after every call the controller's volume and each ring's stored records in order"
+pub record Answer : Type 0 where
+  pub reply : Reply
+  pub volume : ℕ
+  pub stored : List (List Level)
+
+abbrev pub answerOf : Stepped → Answer
+answerOf s = record { reply = s .reply; volume = s .state .control .volume; stored = s .state .predictor .rings }
+
+unfoldable pub answers : Controller → List Call → List Answer
+answers c [] = []
+answers c (call ∷ calls) = answerOf (step c call) ∷ answers (step c call .state) calls
+
+-- ---- what the contracts of the calls say
+
+-- r is what the call hands back, and it says what the definition says
+pub record Does (self : InputVolumeController) (call : Call) (says : Reply) (r : InputVolumeController) : Type 0 where
+  pub good : Good r
+  pub reply : says ≡ step (viewOf self) call .reply
+  pub view : viewOf r ≡ step (viewOf self) call .state
+
+-- what the private functions say of an accepted frame
+pub record Framed (s : Stepped) (r : Analyzed) : Type 0 where
+  pub good : Good (r .controller)
+  pub reply : analysisSays (r .answer) ≡ s .reply
+  pub view : viewOf (r .controller) ≡ s .state
+  pub accepted : (cause : Refusal) → r .answer ≡ Refused cause → ⊥
+
+-- a frame; a refused one hands the very controller back
+pub record AnalyzedOf (self : InputVolumeController) (volume : ℤ) (samples : ℕ) (lent : List Float) (r : Analyzed) : Type 0 where
+  pub does : Does self (frame volume samples lent) (analysisSays (r .answer)) (r .controller)
+  pub same : (cause : Refusal) → r .answer ≡ Refused cause → r .controller ≡ self

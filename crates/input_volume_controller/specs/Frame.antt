@@ -1,0 +1,75 @@
+-- Document 01, "All channels": a frame, by the source's `analyze_input_audio`; causes 8 and 9. Definitions only.
+use mathlib.Core.Bool.{Bool, true, false, _||_}
+use mathlib.Core.List.{List, map, foldl}
+use Prim.Native.Nat.{ℕ, max}
+use lib.Dec.{ltb}
+use lib.IntN.{ℤ}
+use lib.Ieee.{Float, lt}
+use lib.ListN.{length}
+use Rattle.numbers.specs.declared.natural.Natural.{Natural}
+use Rattle.numbers.specs.declared.natural.Natural.the-variants.{Number, Outside}
+use Rattle.numbers.specs.declared.refusal.Refusal.{Refusal}
+use Rattle.numbers.specs.declared.refusal.Refusal.the-variants.{InputVolume, FrameSize}
+use Rattle.numbers.specs.Natural.{withinOf}
+use Rattle.numbers.specs.Refusal.{numberOf}
+use Rattle.clipping_predictor_level_buffer.specs.declared.level.Level.{Level}
+use Rattle.clipping_predictor.specs.declared.modes.Asked.{Asked}
+use Rattle.clipping_predictor.specs.declared.modes.Estimated.{Estimated}
+use Rattle.clipping_predictor.specs.Tree.{leaf}
+use Rattle.clipping_predictor.specs.Estimate.{estimateTree, estimated}
+use Rattle.clipping_predictor.specs.Predictor.{Predictor, frameFits, enteredIf, emptied}
+use Rattle.input_volume_controller.specs.ClippedRatio.{clippedRatio}
+use Rattle.mono_input_volume_controller.specs.MonoState.{maxInputVolume}
+use Rattle.input_volume_controller.specs.Control.{Control}
+use Rattle.input_volume_controller.specs.ControlCalls.{withAppliedInputVolume, lowerChannels, oneFrameMore}
+use Rattle.input_volume_controller.specs.Controller.{Controller}
+use Rattle.input_volume_controller.specs.Reply.{mark, refusal, Stepped}
+
+-- "each channel's estimate is asked with the controller's volume as level, clipped_level_step as default step, clipped_level_min as min and 255 as max"
+abbrev pub askedOf : Control → Asked
+askedOf c = record { level = c .volume; step = c .settings .step; least = c .settings .floor; most = maxInputVolume }
+
+-- "the largest predicted step"; "A frame is marked exactly if one of its channels' estimates is"
+abbrev pub joined : Estimated → Estimated → Estimated
+joined a b = record { drop = max (a .drop) (b .drop); near = a .near || b .near }
+
+unfoldable pub predictedBy : Asked → Predictor → Estimated
+predictedBy a p = foldl joined (estimated (leaf 0)) (map (λ (records : List Level). estimated (estimateTree (p .settings) records a)) (p .rings))
+
+-- "ratio above threshold or a prediction lowers every channel, empties the rings and restarts the wait. The step is clipped_level_step, or the largest predicted step if larger."
+abbrev pub handleIf : Bool → ℕ → Controller → Controller
+handleIf true step c = record { control = lowerChannels step (c .control); predictor = emptied (c .predictor) }
+handleIf false step c = c
+
+abbrev pub handled : Bool → Estimated → Controller → Stepped
+handled clipped e c = record { reply = mark (e .near); state = handleIf (clipped || ltb 0 (e .drop)) (max (c .control .settings .step) (e .drop)) c }
+
+-- "one within the wait then only counts"
+abbrev pub unlessWaiting : Bool → Bool → Controller → Stepped
+unlessWaiting true clipped c = record { reply = mark false; state = record { control = oneFrameMore (c .control); predictor = c .predictor } }
+unlessWaiting false clipped c = handled clipped (predictedBy (askedOf (c .control)) (c .predictor)) c
+
+-- "With capture on every frame first enters the rings"; "With capture off, frames only set the volume"
+abbrev pub ifUsed : Bool → ℕ → List Float → Controller → Stepped
+ifUsed true samples lent c =
+    unlessWaiting (ltb (c .control .since) (c .control .settings .«clipped_wait»))
+    (lt (c .control .settings .«clipped_ratio») (clippedRatio (length (c .control .channels)) samples lent))
+    (record { control = c .control; predictor = enteredIf true samples lent (c .predictor) })
+ifUsed false samples lent c = record { reply = mark false; state = c }
+
+-- its volume is applied
+abbrev pub withVolumeApplied : ℕ → Controller → Controller
+withVolumeApplied volume c = record { control = withAppliedInputVolume volume (c .control); predictor = c .predictor }
+
+-- causes 8 and 9, in that order, hand the state back
+abbrev pub refusedWith : Refusal → Controller → Stepped
+refusedWith cause c = record { reply = refusal (numberOf cause); state = c }
+
+abbrev pub unlessRefused : Natural → Bool → ℕ → List Float → Controller → Stepped
+unlessRefused Outside fits samples lent c = refusedWith InputVolume c
+unlessRefused (Number volume) false samples lent c = refusedWith FrameSize c
+unlessRefused (Number volume) true samples lent c = ifUsed (c .control .used) samples lent (withVolumeApplied volume c)
+
+unfoldable pub analyzeInputAudio : ℤ → ℕ → List Float → Controller → Stepped
+unfolding predictedBy
+analyzeInputAudio volume samples lent c = unlessRefused (withinOf 0 maxInputVolume volume) (frameFits (length (c .control .channels)) samples lent) samples lent c

@@ -1,0 +1,104 @@
+// The controllers of all channels: one loop serves every call of each of them, and one finds the lowest volume.
+ghost use mathlib.Core.Path.{_≡_};
+ghost use Prim.Native.Nat.{_≤_};
+ghost use lib.ListN.{replicate};
+ghost use Rattle.clipping_predictor.specs.Predictor.{maxChannels};
+ghost use Rattle.mono_input_volume_controller.specs.MonoState.{maxWait};
+ghost use Rattle.mono_input_volume_controller.specs.MonoState.{Good as GoodChannel, Becomes as BecomesChannel};
+ghost use Rattle.input_volume_controller.specs.Channels.{Good, Becomes, freshChannel, called, channelsOf, eachCalled, lowerOf, aggregateOf};
+use clipping_predictor::MAX_CHANNELS;
+use mono_input_volume_controller::config::Settings;
+use mono_input_volume_controller::mono::MonoInputVolumeController;
+use mono_input_volume_controller::speech_level::RmsError;
+
+// A call that every channel gets.
+pub enum ChannelCall {
+    Initialize,
+    CaptureOutputUsed(bool),
+    StreamAnalogLevel(u8),
+    Clipping(u8),
+    Process(RmsError, f32),
+}
+
+// One controller for each channel; those past the count are not used.
+#[repr(C)]
+pub struct Channels {
+    pub items: [MonoInputVolumeController; MAX_CHANNELS],
+    pub count: usize,
+}
+
+// The lowest volume of some channels, and the first channel that has it.
+pub struct Aggregate {
+    pub volume: u8,
+    pub channel: usize,
+}
+
+fn call_one(m: MonoInputVolumeController, call: ChannelCall) -> MonoInputVolumeController
+    requires { ⌜ GoodChannel m ⌝ }
+    ensures { λ r. ⌜ BecomesChannel (called call m) r ⌝ }
+{
+    match call {
+        ChannelCall::Initialize => m.initialize(),
+        ChannelCall::CaptureOutputUsed(on) => m.handle_capture_output_used_change(on),
+        ChannelCall::StreamAnalogLevel(volume) => m.set_stream_analog_level(volume),
+        ChannelCall::Clipping(step) => m.handle_clipping(step),
+        ChannelCall::Process(error, probability) => m.process(error, probability),
+    }
+}
+
+// A channel with a lower volume than those before it takes their place.
+fn lower_of(a: Aggregate, volume: u8, channel: usize) -> Aggregate
+    ensures { λ r. ⌜ r ≡ lowerOf a volume channel ⌝ }
+{
+    if volume < a.volume {
+        return Aggregate { volume, channel };
+    }
+    a
+}
+
+impl Channels {
+    pub fn new(count: usize, s: Settings) -> Channels
+        requires { ⌜ (1 ≤ count) × (count ≤ maxChannels) × (1 ≤ s .«update_wait») × (s .«update_wait» ≤ maxWait) ⌝ }
+        ensures { λ r. ⌜ Becomes (replicate count (freshChannel s)) r ⌝ }
+    {
+        let channel = MonoInputVolumeController::new(
+            s.floor,
+            s.least,
+            s.update_wait,
+            s.speech_probability,
+            s.speech_ratio,
+        );
+        let items = [channel; MAX_CHANNELS];
+        Channels { items, count }
+    }
+
+    pub fn each(self, call: ChannelCall) -> Channels
+        requires { ⌜ Good self ⌝ }
+        ensures { λ r. ⌜ Becomes (eachCalled call (channelsOf self)) r ⌝ }
+    {
+        let count = self.count;
+        let mut c = self;
+        for i in 0..count {
+            let m = c.items[i];
+            c.items[i] = call_one(m, call);
+        }
+        c
+    }
+
+    // The lowest of the channels' volumes.
+    pub fn aggregate(self) -> Aggregate
+        requires { ⌜ Good self ⌝ }
+        ensures { λ r. ⌜ r ≡ aggregateOf (channelsOf self) ⌝ }
+    {
+        let first = self.items[0];
+        let mut a = Aggregate {
+            volume: first.volume,
+            channel: 0,
+        };
+        for i in 1..self.count {
+            let m = self.items[i];
+            a = lower_of(a, m.volume, i);
+        }
+        a
+    }
+}

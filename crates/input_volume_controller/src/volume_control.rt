@@ -1,0 +1,176 @@
+// All of the controller but its predictor. It is small, and is passed by value where the predictor's rings, which are large, need not be.
+ghost use mathlib.Core.Path.{_≡_};
+ghost use Prim.Native.Nat.{_≤_, _<_};
+ghost use Rattle.clipping_predictor.specs.Predictor.{maxChannels};
+ghost use Rattle.input_volume_controller.specs.declared.Applied.the-variants.{Volume};
+ghost use Rattle.mono_input_volume_controller.specs.Config.{Good as GoodSettings};
+ghost use Rattle.input_volume_controller.specs.Controller.{freshControl};
+ghost use Rattle.input_volume_controller.specs.Control.{withApplied, controlOf, Good, Becomes, eachChannel};
+ghost use Rattle.input_volume_controller.specs.ControlCalls.{raisedFor, aggregated, withAppliedInputVolume, initialize, switchCapture, lowerChannels, oneFrameMore, processChannels};
+use crate::Applied;
+use crate::channels::ChannelCall;
+use crate::channels::Channels;
+use mono_input_volume_controller::config::Settings;
+use mono_input_volume_controller::speech_level::SpeechLevel;
+use mono_input_volume_controller::speech_level::get_speech_level_rms_error_db;
+
+#[repr(C)]
+pub struct VolumeControl {
+    pub settings: Settings,
+    // channel_controllers
+    pub channels: Channels,
+    // frames_since_clipped
+    pub since: u32,
+    // capture_output_used
+    pub used: bool,
+    // applied_input_volume
+    pub applied: Applied,
+    // recommended_input_volume
+    pub volume: u8,
+    // channel_controlling_gain
+    pub controlling: usize,
+}
+
+// Raised to the minimum, unless the volume that is applied is 0.
+fn raised_unless_zero(applied: u8, least: u8, volume: u8) -> u8
+    ensures { λ r. ⌜ r ≡ raisedFor (Volume applied) least volume ⌝ }
+{
+    if applied == 0 {
+        return volume;
+    }
+    numbers::byte::larger(volume, least)
+}
+
+// The lowest volume, raised to the minimum where a volume above 0 is pending.
+fn raised_for(applied: Applied, least: u8, volume: u8) -> u8
+    ensures { λ r. ⌜ r ≡ raisedFor applied least volume ⌝ }
+{
+    match applied {
+        Applied::Nothing => volume,
+        Applied::Volume(v) => raised_unless_zero(v, least, volume),
+    }
+}
+
+impl VolumeControl {
+    pub fn new(count: usize, s: Settings) -> VolumeControl
+        requires { ⌜ (1 ≤ count) × (count ≤ maxChannels) × GoodSettings s ⌝ }
+        ensures { λ r. ⌜ Becomes (freshControl s count) r ⌝ }
+    {
+        VolumeControl {
+            settings: s,
+            channels: Channels::new(count, s),
+            since: s.clipped_wait,
+            used: true,
+            applied: Applied::Nothing,
+            volume: 0,
+            controlling: 0,
+        }
+    }
+
+    pub fn with_applied(self, applied: Applied) -> VolumeControl
+        requires { ⌜ Good self ⌝ }
+        ensures { λ r. ⌜ Becomes (withApplied applied (controlOf self)) r ⌝ }
+    {
+        let settings = self.settings;
+        let channels = self.channels;
+        VolumeControl {
+            settings,
+            channels,
+            since: self.since,
+            used: self.used,
+            applied,
+            volume: self.volume,
+            controlling: self.controlling,
+        }
+    }
+
+    fn each(self, call: ChannelCall) -> VolumeControl
+        requires { ⌜ Good self ⌝ }
+        ensures { λ r. ⌜ Becomes (eachChannel call (controlOf self)) r ⌝ }
+    {
+        let channels = self.channels;
+        let mut c = self;
+        c.channels = channels.each(call);
+        c
+    }
+
+    pub fn aggregate_channel_levels(self) -> VolumeControl
+        requires { ⌜ Good self ⌝ }
+        ensures { λ r. ⌜ Becomes (aggregated (controlOf self)) r ⌝ }
+    {
+        let channels = self.channels;
+        let lowest = channels.aggregate();
+        let applied = self.applied;
+        let mut c = self;
+        c.volume = raised_for(applied, self.settings.least, lowest.volume);
+        c.controlling = lowest.channel;
+        c
+    }
+
+    pub fn set_applied_input_volume(self, input_volume: u8) -> VolumeControl
+        requires { ⌜ Good self ⌝ }
+        ensures { λ r. ⌜ Becomes (withAppliedInputVolume «input_volume» (controlOf self)) r ⌝ }
+    {
+        let c = self.each(ChannelCall::StreamAnalogLevel(input_volume));
+        let d = c.with_applied(Applied::Volume(input_volume));
+        d.aggregate_channel_levels()
+    }
+
+    // The volume is taken with the applied one still pending.
+    pub fn initialize(self) -> VolumeControl
+        requires { ⌜ Good self ⌝ }
+        ensures { λ r. ⌜ Becomes (initialize (controlOf self)) r ⌝ }
+    {
+        let mut c = self.each(ChannelCall::Initialize);
+        c.used = true;
+        let d = c.aggregate_channel_levels();
+        d.with_applied(Applied::Nothing)
+    }
+
+    pub fn handle_capture_output_used_change(self, capture_output_used: bool) -> VolumeControl
+        requires { ⌜ Good self ⌝ }
+        ensures { λ r. ⌜ Becomes (switchCapture «capture_output_used» (controlOf self)) r ⌝ }
+    {
+        let mut c = self.each(ChannelCall::CaptureOutputUsed(capture_output_used));
+        c.used = capture_output_used;
+        c
+    }
+
+    // Clipping lowers every channel and restarts the wait.
+    pub fn lower_channels(self, step: u8) -> VolumeControl
+        requires { ⌜ Good self ⌝ }
+        ensures { λ r. ⌜ Becomes (lowerChannels step (controlOf self)) r ⌝ }
+    {
+        let mut c = self.each(ChannelCall::Clipping(step));
+        c.since = 0;
+        c.aggregate_channel_levels()
+    }
+
+    // A frame within the wait.
+    pub fn one_frame_more(self) -> VolumeControl
+        requires { ⌜ Good self × (self .since < self .settings .«clipped_wait») ⌝ }
+        ensures { λ r. ⌜ Becomes (oneFrameMore (controlOf self)) r ⌝ }
+    {
+        let mut c = self;
+        c.since = self.since + 1;
+        c
+    }
+
+    // The speech error acts on every channel.
+    pub fn process_channels(
+        self,
+        speech_probability: f32,
+        speech_level: SpeechLevel,
+    ) -> VolumeControl
+        requires { ⌜ Good self ⌝ }
+        ensures { λ r. ⌜ Becomes (processChannels «speech_probability» «speech_level» (controlOf self)) r ⌝ }
+    {
+        let error = get_speech_level_rms_error_db(
+            speech_level,
+            self.settings.min_target,
+            self.settings.max_target,
+        );
+        let c = self.each(ChannelCall::Process(error, speech_probability));
+        c.aggregate_channel_levels()
+    }
+}

@@ -1,0 +1,5 @@
+pub mod SpeechLevel
+pub mod MonoState
+pub mod Mono
+pub mod MonoProcess
+pub mod Config

@@ -1,0 +1,4 @@
+// One channel's controller, the settings that it is made from, and the speech error that it acts on. The first parts of input_volume_controller.rs.
+pub mod config;
+pub mod mono;
+pub mod speech_level;

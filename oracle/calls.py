@@ -1,0 +1,190 @@
+#!/usr/bin/env python3
+"""Random calls on controllers against the original Rust, all of the state compared after each call.
+
+usage: calls.py ORACLE REPLAY [COUNT [SEED]]
+
+ORACLE is the driver over the unchanged Rust (`probe` of rust/), REPLAY the program of crates/replay. Both get the same commands: controllers of one to eight
+channels with settings from all of the table's domain, frames of 1 to 480 samples a channel with infinite and not-a-number samples among them, recommendations,
+initialises and capture switches. Frames and settings that the table refuses go to the port alone: the refusal must be the table's, and the state must stay.
+After each call the two states must be equal: the volume, the pending volume, the capture switch, the count since clipping, the controlling channel, every figure
+of every channel, and each ring's count and newest record; all records of all rings from time to time. A marked call may differ; the controller is then left, since
+the states are no longer equal. Prints what was compared, and each line that differs.
+"""
+import random
+import re
+import struct
+import subprocess
+import sys
+import tempfile
+
+PIECE = 60_000  # calls for one run of the two programs
+
+
+def bits(x):
+    return struct.unpack(">I", struct.pack(">f", x))[0]
+
+
+WILD = [0x7F800000, 0xFF800000, 0x7FC00000, 0xFFC00001, 0x00000001, 0x7F7FFFFF, 0x46FFFE00, 0xC7000000, 0x46FFFDFF, 0xC6FFFFFF, 0x80000000]
+UNIT = ["00000000", "3f800000", "3f333333", "3f19999a", "3f000000", "80000000", "00000001"]
+
+
+def settings(rnd):
+    """The settings of a command `N`, each in the table's domain."""
+    def either(*xs):
+        return rnd.choice(xs)
+    channels = either(1, 1, 2, 3, 5, 8)
+    ratio = either("3dcccccd", "3dcccccd", "00000000", "3f000000", "bf800000", "7fc00000", "7f800000", f"{rnd.getrandbits(32):08x}")
+    wait = either(0, 1, 3, 5, 12, 30, 300, rnd.randint(0, 65535))
+    update = either(0, 1, 2, 3, 5, 10, 100, rnd.randint(0, 65535))
+    return channels, [
+        channels, either(20, 0, 1, 255, rnd.randint(0, 255)), either(70, 0, 255, rnd.randint(0, 255)), either(15, 1, 255, rnd.randint(1, 255)), ratio, wait, either(1, 1, 1, 0),
+        either(-30, rnd.randint(-90, 30)), either(-50, rnd.randint(-90, 30)), update, either("3f333333", *UNIT), either("3f19999a", *UNIT),
+    ]
+
+
+def refused_settings(rnd, made):
+    """Settings with a fault, and the first cause that holds."""
+    odd = [-1, -2147483648, 2147483647]
+    faults = [(1, 0, odd + [0, 9]), (2, 1, odd + [256]), (2, 2, odd + [256]), (3, 3, odd + [0, 256]), (4, 5, odd + [65536]), (4, 9, odd + [65536]), (5, 7, [-91, 31] + odd[1:]), (5, 8, [-91, 31] + odd[1:]),
+              (6, 10, ["7fc00000", "bf800000", "80000001", "3f800001", "ffc00000"]), (6, 11, ["7fc00000", "bf800000", "80000001", "3f800001", "ff800000"])]
+    chosen = rnd.sample(faults, rnd.choice([1, 1, 2, 3]))
+    made = list(made)
+    for _, place, values in chosen:
+        made[place] = rnd.choice(values)
+    return made, min(cause for cause, _, _ in chosen)
+
+
+def part(rnd, size, loud):
+    """One channel's samples: silence, a tone of one magnitude with a peak, noise, or anything."""
+    kind = rnd.random()
+    if kind < 0.25:
+        return "00000000" * size
+    if kind < 0.75:
+        low = 10 ** rnd.uniform(0, 4.4)
+        a, b = f"{bits(low):08x}", f"{bits(-low):08x}"
+        words = [a if rnd.getrandbits(1) else b for _ in range(size)] if size < 20 else [a, b] * (size // 2) + [a] * (size % 2)
+        if rnd.random() < 0.7:
+            words[rnd.randrange(size)] = f"{bits(rnd.choice([29203.7, 29203.7, rnd.uniform(26000, 32767)]) * loud):08x}"
+        return "".join(words)
+    if size > 20:
+        word = "".join(f"{bits(rnd.uniform(-32768, 32767)):08x}" for _ in range(16))
+        return (word * (size // 16 + 1))[:8 * size]
+    return "".join(f"{rnd.choice(WILD) if rnd.random() < 0.12 else bits(rnd.uniform(-33000, 33000)):08x}" for _ in range(size))
+
+
+def frame(rnd, channels, volume):
+    size = rnd.choice([1, 2, 3, 5, 8]) if rnd.random() < 0.985 else rnd.choice([160, 480, rnd.randint(9, 480)])
+    loud = rnd.choice([1.0, 1.0, 1.0, 1.1])
+    return f"A {volume} " + "".join(part(rnd, size, loud) for _ in range(channels))
+
+
+def session(rnd):
+    """A controller and some calls on it: pairs of a command and the refusal's number, if the table refuses it."""
+    channels, made = settings(rnd)
+    out = []
+    if rnd.random() < 0.3:
+        bad, cause = refused_settings(rnd, made)
+        out.append(("N " + " ".join(map(str, bad)), cause))
+    out.append(("N " + " ".join(map(str, made)), None))
+    volume = rnd.randint(0, 255)
+    for _ in range(rnd.choice([20, 60, 150])):
+        kind = rnd.random()
+        if kind < 0.50:
+            if rnd.random() < 0.15:
+                volume = rnd.choice([0, 255, rnd.randint(0, 255), max(0, min(255, volume + rnd.randint(-30, 30)))])
+            out.append((frame(rnd, channels, volume), None))
+        elif kind < 0.90:
+            level = rnd.choice(["-", "-", f"{bits(rnd.uniform(-95, 35)):08x}", f"{bits(rnd.choice([-29.5, -29.75, -70.0, -30.0, -50.0])):08x}", "7fc00000", f"{rnd.getrandbits(32):08x}"])
+            out.append((f"R {rnd.choice(['3f800000', '3f333333', '00000000', '7fc00000', f'{rnd.getrandbits(32):08x}'])} {level}", None))
+        elif kind < 0.93:
+            out.append(("I", None))
+        elif kind < 0.97:
+            out.append((f"C {rnd.choice([0, 1, 1])}", None))
+        elif kind < 0.98:
+            out.append(("D", None))
+        else:
+            bad = rnd.choice([-1, 256, 2147483647, -2147483648])
+            if rnd.random() < 0.5:
+                out.append((f"B {bad} {rnd.choice([0, 1, 3, 481])} {'00000000' * rnd.choice([0, 1, channels])}", 8))
+            else:
+                size, count = rnd.choice([(0, 0), (481, channels), (1, channels + 1), (2, channels), (0, channels), (-1, 0)])
+                out.append((f"B {rnd.randint(0, 255)} {size} {'00000000' * count}", 9))
+    return out
+
+
+def run(program, commands):
+    with tempfile.TemporaryFile() as text:
+        text.write(("\n".join(commands) + "\n").encode())
+        text.seek(0)
+        out = subprocess.run([program], stdin=text, stdout=subprocess.PIPE, stderr=subprocess.DEVNULL).stdout
+    return out.decode().split("\n")[:-1]
+
+
+def one_spelling(word):
+    value = int(word.group(0), 16)
+    return "7fc00000" if value & 0x7FFFFFFF > 0x7F800000 else "00000000" if value == 0x80000000 else word.group(0)
+
+
+def normal(text):
+    return re.sub(r"(?<=:)[0-9a-f]{8}(?![0-9a-f])", one_spelling, text)
+
+
+def port_state(answer):
+    """The port writes every channel; the driver the first, and whether all are equal."""
+    head, rings = answer.split(" r=")
+    words = head.split(" m=")
+    equal = len(set(words[1:])) == 1
+    return f"{words[0]} e={int(equal)} m={words[1]} r={rings}"
+
+
+def main():
+    oracle, replay = sys.argv[1:3]
+    wanted = int(sys.argv[3]) if len(sys.argv) > 3 else 2_000_000
+    rnd = random.Random(int(sys.argv[4]) if len(sys.argv) > 4 else 1)
+    counts = dict(calls=0, controllers=0, frames=0, recommendations=0, none=0, initialises=0, switches=0, dumps=0, refused=0, statistics_panics=0, marked=0, marked_apart=0, left=0, differ=0)
+    names = dict(A="frames", R="recommendations", I="initialises", C="switches", N="controllers")
+    while counts["calls"] < wanted:
+        commands = []
+        while len(commands) < PIECE:
+            commands += session(rnd)
+        theirs = iter(run(oracle, [c for c, cause in commands if cause is None]))
+        ours = run(replay, ["V"] + [c for c, _ in commands])[1:]
+        assert len(ours) == len(commands), (len(ours), len(commands))
+        apart, before = False, None
+        for (command, cause), port in zip(commands, ours):
+            port = port.split(" => ", 1)[1]
+            rust = normal(next(theirs)) if cause is None else None
+            kind = command[0]
+            apart = apart and kind != "N"
+            if apart:
+                counts["left"] += 1
+                continue
+            counts["calls"] += 1
+            if cause is not None:
+                counts["refused"] += 1
+                fine = port == f"! {cause}" if kind == "N" else port_state(normal(port)) == f"! {cause} {before}"
+            else:
+                counts[names.get(kind, "dumps")] += 1
+                near = port.endswith(" n")
+                state = port_state(normal(port[:-2] if near else port))
+                if rust.startswith("P"):
+                    counts["statistics_panics"] += 1
+                    rust = rust[1:]
+                counts["none"] += rust.startswith("none")
+                counts["marked"] += near
+                fine = state == rust or near
+                if near and state != rust:
+                    counts["marked_apart"] += 1
+                    apart = True
+                if kind != "D":
+                    before = state.split(" ", 1)[1]
+            if not fine:
+                counts["differ"] += 1
+                if counts["differ"] <= 20:
+                    print(f"{command[:200]}\n  the Rust {rust}\n  the port {port}\n  the table {cause}")
+                apart = True
+    print(", ".join(f"{k} {v}" for k, v in counts.items()))
+    sys.exit(counts["differ"] != 0)
+
+
+main()
