@@ -1,0 +1,41 @@
+-- A frame's reply is a refusal exactly where the frame is not accepted. Assumes nothing.
+use mathlib.Core.Path.{_≡_, refl}
+use mathlib.Core.Bool.{Bool, true, false, not, _&&_}
+use mathlib.Core.List.{List}
+use Prim.Native.Nat.{ℕ}
+use lib.Dec.{ltb}
+use lib.Ieee.{Float, lt}
+use lib.ListN.{length}
+use Rattle.numbers.specs.declared.natural.Natural.{Natural}
+use Rattle.numbers.specs.declared.natural.Natural.the-variants.{Number, Outside}
+use Rattle.numbers.specs.Natural.{withinOf}
+use Rattle.clipping_predictor.specs.Predictor.{frameFits, enteredIf}
+use Rattle.input_volume_controller.specs.ClippedRatio.{clippedRatio}
+use Rattle.mono_input_volume_controller.specs.MonoState.{maxInputVolume}
+use Rattle.input_volume_controller.specs.ControlCalls.{withAppliedInputVolume}
+use Rattle.input_volume_controller.specs.Controller.{Controller}
+use Rattle.input_volume_controller.specs.Frame.{unlessWaiting, ifUsed, unlessRefused, analyzeInputAudio}
+use Rattle.claims.specs.LeadIn.{isNumber, accepts}
+use Rattle.claims.specs.Sharp.{isRefusal, AcceptedIsNotRefused}
+
+marked-waiting : (t clipped : Bool) (c : Controller) → isRefusal (unlessWaiting t clipped c .reply) ≡ false
+marked-waiting true clipped c = refl
+marked-waiting false clipped c = refl
+
+marked-used : (t : Bool) (samples : ℕ) (lent : List Float) (c : Controller) → isRefusal (ifUsed t samples lent c .reply) ≡ false
+marked-used true samples lent c =
+    marked-waiting (ltb (c .control .since) (c .control .settings .«clipped_wait»))
+    (lt (c .control .settings .«clipped_ratio») (clippedRatio (length (c .control .channels)) samples lent))
+    (record { control = c .control; predictor = enteredIf true samples lent (c .predictor) })
+marked-used false samples lent c = refl
+
+refused-if : (volume : Natural) (fits : Bool) (samples : ℕ) (lent : List Float) (c : Controller)
+    → isRefusal (unlessRefused volume fits samples lent c .reply) ≡ not (isNumber volume && fits)
+refused-if Outside fits samples lent c = refl
+refused-if (Number volume) false samples lent c = refl
+refused-if (Number volume) true samples lent c = marked-used (c .control .used) samples lent (record { control = withAppliedInputVolume volume (c .control); predictor = c .predictor })
+
+-- THE CLAIM
+pub accepted-is-not-refused : AcceptedIsNotRefused
+unfolding accepts analyzeInputAudio
+accepted-is-not-refused c volume samples lent = refused-if (withinOf 0 maxInputVolume volume) (frameFits (length (c .control .channels)) samples lent) samples lent c

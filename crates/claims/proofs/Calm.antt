@@ -1,0 +1,128 @@
+-- A calm list of calls, and that after enough quiet frames in it rings and count are known. Assumes nothing.
+use mathlib.Core.Path.{_≡_, refl, sym, subst}
+use mathlib.Core.List.{List, [], _∷_, map}
+use mathlib.Core.Bool.{Bool, true, false, not, _&&_, _||_}
+use Prim.Native.Nat.{ℕ, suc, _+_, _≤_, zero-le}
+use native.Mathlib.Nat.{le-refl}
+use native.Mathlib.Omega.{arith}
+use lib.Dec.{T}
+use lib.Ieee.{Float, le}
+use lib.ListN.{take, replicate}
+use Rattle.numbers.specs.declared.natural.Natural.{Natural}
+use Rattle.numbers.specs.declared.natural.Natural.the-variants.{Number, Outside}
+use Rattle.numbers.specs.Natural.{withinOf}
+use Rattle.clipping_predictor_level_buffer.specs.declared.level.Level.{Level}
+use Rattle.clipping_predictor_level_buffer.specs.Statistics.{plusZero}
+use Rattle.clipping_predictor.specs.declared.settings.Settings as Predictor
+use Rattle.clipping_predictor.specs.Estimate.{capacityIf, capacityOf}
+use Rattle.clipping_predictor.specs.Predictor.{levelsOf, frameFits}
+use Rattle.mono_input_volume_controller.specs.declared.config.Settings.{Settings}
+use Rattle.mono_input_volume_controller.specs.declared.speech_level.SpeechLevel.{SpeechLevel}
+use Rattle.input_volume_controller.specs.declared.Applied.{Applied}
+use Rattle.input_volume_controller.specs.declared.Applied.the-variants.{Nothing, Volume}
+use Rattle.input_volume_controller.specs.ClippedRatio.{oneIf}
+use Rattle.mono_input_volume_controller.specs.MonoState.{maxInputVolume}
+use Rattle.input_volume_controller.specs.ControlCalls.{aggregated, initialize, processChannels}
+use Rattle.input_volume_controller.specs.Controller.{Controller}
+use Rattle.input_volume_controller.specs.Frame.{unlessRefused, analyzeInputAudio}
+use Rattle.input_volume_controller.specs.Recommendation.{recommendIf, unlessNone, recommendInputVolume}
+use Rattle.input_volume_controller.specs.Calls.{Call, frame, recommendation, initialise, captureSwitch, step, after}
+use Rattle.claims.specs.LeadIn.{all, isNumber, accepts, acceptedBy, acceptedIn, isLow, quietFor, isCalm}
+use Rattle.claims.specs.TwoPasts.{enoughFor}
+use Rattle.claims.proofs.Lists.{and-l, and-r, is-true}
+use Rattle.claims.proofs.Kept.{Kept, count-of, kept-step}
+use Rattle.claims.proofs.Rings.{grow, match-start, match-full}
+use Rattle.claims.proofs.Led.{Led, led-same}
+use Rattle.claims.proofs.QuietFrames.{led-frame}
+
+-- ---- the records that a list of calls gives
+
+abbrev growIf : Bool → List Level → List (List Level) → List (List Level)
+growIf true levels grown = grow levels grown
+growIf false levels grown = grown
+
+unfoldable pub grownBy : ℕ → Call → List (List Level) → List (List Level)
+unfolding accepts
+grownBy n (frame volume samples lent) grown = growIf (accepts n volume samples lent) (levelsOf n samples lent) grown
+grownBy n (recommendation probability level) grown = grown
+grownBy n initialise grown = grown
+grownBy n (captureSwitch on) grown = grown
+
+unfoldable pub grownIn : ℕ → List Call → List (List Level) → List (List Level)
+grownIn n [] grown = grown
+grownIn n (call ∷ calls) grown = grownIn n calls (grownBy n call grown)
+
+module _ (p : Predictor.Settings) (s : Settings) (n : ℕ) where
+  abbrev pub L : List (List Level) → ℕ → Controller → Type 0
+  L grown k c = Led p s grown k c
+
+  pub led-start : (c : Controller) → Kept p s n c → L (replicate n []) 0 (step c (captureSwitch true) .state)
+  led-start c b = record { on = refl; m = 0; late = zero-le; rows = match-start (isLow p) (capacityOf p) n (c .predictor .rings) (b .count); waited = omega arith }
+
+  led-by : (grown : List (List Level)) (j k : ℕ) (c : Controller) → j ≡ k → L grown j c → L grown k c
+  led-by grown j k c e h = subst (λ (x : ℕ). L grown x c) e h
+
+  led-recommended : (t : Bool) (applied : ℕ) (probability : Float) (level : SpeechLevel) (grown : List (List Level)) (k : ℕ) (c : Controller) → L grown k c
+      → L grown k (recommendIf t applied probability level c .state)
+  unfolding processChannels aggregated
+  led-recommended true applied probability level grown k c h = led-same p s grown k c _ refl refl refl h
+  led-recommended false applied probability level grown k c h = led-same p s grown k c _ refl refl refl h
+
+  led-asked : (a : Applied) (probability : Float) (level : SpeechLevel) (grown : List (List Level)) (k : ℕ) (c : Controller) → L grown k c
+      → L grown k (unlessNone a probability level c .state)
+  led-asked Nothing probability level grown k c h = h
+  led-asked (Volume applied) probability level grown k c h = led-recommended (c .control .used) applied probability level grown k c h
+
+  pub led-initialise : (grown : List (List Level)) (k : ℕ) (c : Controller) → L grown k c → L grown k (step c initialise .state)
+  unfolding initialize aggregated
+  led-initialise grown k c h = record { on = refl; m = h .m; late = h .late; rows = h .rows; waited = h .waited }
+
+  led-switch : (on : Bool) (grown : List (List Level)) (k : ℕ) (c : Controller) → T on → L grown k c → L grown k (step c (captureSwitch on) .state)
+  led-switch on grown k c t h = record { on = is-true on t; m = h .m; late = h .late; rows = h .rows; waited = h .waited }
+
+  module _ (window : 1 ≤ p .window) (ratio : T (le plusZero (s .«clipped_ratio»))) where
+    led-heard : (volume : Natural) (fits : Bool) (samples : ℕ) (lent : List Float) (grown : List (List Level)) (k : ℕ) (c : Controller) → Kept p s n c
+        → T (not (isNumber volume && fits) || quietFor p n samples lent) → L grown k c
+        → L (growIf (isNumber volume && fits) (levelsOf n samples lent) grown) (oneIf (isNumber volume && fits) + k) (unlessRefused volume fits samples lent c .state)
+    led-heard Outside fits samples lent grown k c b t h = led-by _ k (0 + k) _ (omega arith) h
+    led-heard (Number volume) false samples lent grown k c b t h = led-by _ k (0 + k) _ (omega arith) h
+    led-heard (Number volume) true samples lent grown k c b t h = led-by _ (suc k) (1 + k) _ (omega arith) (led-frame p s n window ratio volume samples lent grown k c b t h)
+
+    led-step : (call : Call) (grown : List (List Level)) (k : ℕ) (c : Controller) → Kept p s n c → T (isCalm n (quietFor p n) call) → L grown k c
+        → L (grownBy n call grown) (acceptedBy n call + k) (step c call .state)
+    unfolding grownBy acceptedBy isCalm accepts analyzeInputAudio recommendInputVolume
+    led-step (frame volume samples lent) grown k c b t h =
+        subst (λ (x : ℕ). L (grownBy n (frame volume samples lent) grown) (acceptedBy n (frame volume samples lent) + k) (unlessRefused (withinOf 0 maxInputVolume volume) (frameFits x samples lent) samples lent c .state))
+        (sym (count-of s n (c .control) (b .control))) (led-heard (withinOf 0 maxInputVolume volume) (frameFits n samples lent) samples lent grown k c b t h)
+    led-step (recommendation probability level) grown k c b t h = led-by _ k (0 + k) _ (omega arith) (led-asked (c .control .applied) probability level grown k c h)
+    led-step initialise grown k c b t h = led-by _ k (0 + k) _ (omega arith) (led-initialise grown k c h)
+    led-step (captureSwitch on) grown k c b t h = led-by _ k (0 + k) _ (omega arith) (led-switch on grown k c t h)
+
+    pub led-after : (calls : List Call) (grown : List (List Level)) (k : ℕ) (c : Controller) → Kept p s n c → T (all (isCalm n (quietFor p n)) calls) → L grown k c
+        → L (grownIn n calls grown) (acceptedIn n calls + k) (after c calls)
+    unfolding grownIn acceptedIn after all
+    led-after [] grown k c b t h = led-by _ k (0 + k) _ (omega arith) h
+    led-after (call ∷ calls) grown k c b t h =
+        led-by _ _ _ _ (regroup (acceptedIn n calls) (acceptedBy n call) k)
+        (led-after calls (grownBy n call grown) (acceptedBy n call + k) (step c call .state) (kept-step p s n call c b) (and-r (isCalm n (quietFor p n) call) _ t)
+        (led-step call grown k c b (and-l (isCalm n (quietFor p n) call) _ t) h))
+      where
+        regroup : (a b c : ℕ) → a + (b + c) ≡ b + a + c
+        regroup a b c = omega arith
+
+  -- ---- enough quiet frames
+
+  capacity-le : (t : Bool) (k : ℕ) → capacityIf t k ≤ k
+  capacity-le true k = le-refl _
+  capacity-le false k = zero-le
+
+  module _ (grown : List (List Level)) (k : ℕ) (c : Controller) (b : Kept p s n c) (h : L grown k c) (e : enoughFor p s ≤ k) where
+    pub ready-rings : c .predictor .rings ≡ map (take (capacityOf p)) grown
+    ready-rings =
+        match-full (isLow p) (capacityOf p) (h .m) k (c .predictor .rings) grown (omega (arith, capacity-le (p .enabled) (p .delay + p .reference), h .late, e)) (b .small) (h .rows)
+
+    pub ready-since : c .control .since ≡ s .«clipped_wait»
+    ready-since = omega (arith, b .control .early, h .waited, h .late, e)
+
+  pub ready-window : (k : ℕ) → enoughFor p s ≤ k → p .window ≤ suc k
+  ready-window k e = omega (arith, e)

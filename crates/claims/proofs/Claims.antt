@@ -1,0 +1,40 @@
+-- Every claim holds. Assumes nothing.
+use Rattle.claims.specs.Claims.{Claims}
+use Rattle.claims.proofs.Run.{runs-are-runs}
+use Rattle.claims.proofs.Refused.{refused-calls}
+use Rattle.claims.proofs.Below.{refused-below}
+use Rattle.claims.proofs.Bounds.{bounds}
+use Rattle.claims.proofs.Broken.{broken-leaves}
+use Rattle.claims.proofs.Levels.{levels-within-two}
+use Rattle.claims.proofs.TwoPasts.{two-pasts}
+use Rattle.claims.proofs.InCode.{two-pasts-in-code}
+use Rattle.claims.proofs.EveryMode.{two-pasts-in-every-mode}
+use Rattle.claims.proofs.Exists.{lead-ins-exist}
+use Rattle.claims.proofs.Accepted.{accepted-is-not-refused}
+use Rattle.claims.proofs.TooFew.{two-fewer-are-too-few}
+use Rattle.claims.proofs.Needed.{parts-are-needed}
+use Rattle.claims.proofs.Starred.{starred-cases}
+use Rattle.claims.proofs.GainTable.{never-falls-holds}
+use Rattle.claims.proofs.Equal.{equal-channels}
+use Rattle.claims.proofs.None.{none-exactly}
+
+pub claims : Claims
+claims = record {
+  runs = runs-are-runs;
+  refused = refused-calls;
+  refused-below = refused-below;
+  bounds = bounds;
+  broken = broken-leaves;
+  levels = levels-within-two;
+  two-pasts = two-pasts;
+  two-pasts-in-code = two-pasts-in-code;
+  two-pasts-in-every-mode = two-pasts-in-every-mode;
+  lead-ins-exist = lead-ins-exist;
+  accepted-is-not-refused = accepted-is-not-refused;
+  two-fewer-are-too-few = two-fewer-are-too-few;
+  parts-are-needed = parts-are-needed;
+  starred = starred-cases;
+  gains = never-falls-holds;
+  equal = equal-channels;
+  none = none-exactly;
+}

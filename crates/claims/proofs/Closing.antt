@@ -1,0 +1,136 @@
+-- The whole lead-in: it leads every controller with these settings and channels to one state. Assumes nothing.
+use mathlib.Core.Path.{_≡_, refl, ap, _∙_, subst}
+use mathlib.Core.List.{List, [], _∷_, _++_, map}
+use mathlib.Core.Bool.{true}
+use Prim.Native.Nat.{ℕ, _+_, _≤_}
+use native.Mathlib.Omega.{arith}
+use lib.IntN.{pos}
+use lib.Ieee.{Float}
+use lib.ListN.{take, replicate}
+use Rattle.clipping_predictor_level_buffer.specs.declared.level.Level.{Level}
+use Rattle.clipping_predictor.specs.declared.settings.Settings as Predictor
+use Rattle.clipping_predictor.specs.Estimate.{capacityOf}
+use Rattle.clipping_predictor.specs.Predictor.{enteredIf}
+use Rattle.mono_input_volume_controller.specs.declared.config.Settings.{Settings}
+use Rattle.mono_input_volume_controller.specs.declared.mono.MonoInputVolumeController.{MonoInputVolumeController}
+use Rattle.mono_input_volume_controller.specs.declared.speech_level.SpeechLevel.{SpeechLevel}
+use Rattle.input_volume_controller.specs.declared.Applied.the-variants.{Nothing, Volume}
+use Rattle.mono_input_volume_controller.specs.SpeechLevel.{rmsErrorOf}
+use Rattle.input_volume_controller.specs.Channels.{freshChannel, aggregateOf}
+use Rattle.input_volume_controller.specs.ControlCalls.{raisedFor, aggregated, withAppliedInputVolume, initialize, processChannels}
+use Rattle.input_volume_controller.specs.Controller.{Controller}
+use Rattle.input_volume_controller.specs.Recommendation.{recommendIf}
+use Rattle.input_volume_controller.specs.Calls.{Call, frame, recommendation, initialise, captureSwitch, step, after}
+use Rattle.claims.specs.LeadIn.{acceptedIn, isRefused, quietFor, LeadIn, callsOf}
+use Rattle.claims.specs.TwoPasts.{RatioFromZero, enoughFor}
+use Rattle.claims.proofs.Lists.{all-left, all-right}
+use Rattle.claims.proofs.Cores.{core}
+use Rattle.claims.proofs.Closed.{finished, all-finished}
+use Rattle.claims.proofs.Kept.{Kept, count-of, kept-step, kept-after}
+use Rattle.claims.proofs.Led.{entered, Led}
+use Rattle.claims.proofs.QuietFrames.{quiet-frame}
+use Rattle.claims.proofs.Calm.{grownIn, led-start, led-after, led-initialise, ready-rings, ready-since, ready-window}
+use Rattle.claims.proofs.Runs.{after-append, after-refused, skip, step-accepted, step-recommended}
+
+module _ (v samples : ℕ) (lent : List Float) (probability : Float) (level : SpeechLevel) where
+  -- the state that the last three calls leave, by what was there before: the settings, what is left of the channels, the count, the predictor's settings, the rings
+  final : Settings → List MonoInputVolumeController → ℕ → Predictor.Settings → List (List Level) → Controller
+  final s cores since p rings =
+      let channels = map (finished (rmsErrorOf level (s .«min_target») (s .«max_target»)) probability v) cores in
+      record {
+        control = record {
+          settings = s;
+          channels = channels;
+          since = since;
+          used = true;
+          applied = Nothing;
+          volume = raisedFor (Volume v) (s .least) (aggregateOf channels .volume);
+          controlling = aggregateOf channels .channel;
+        };
+        predictor = enteredIf true samples lent (record { settings = p; rings = rings });
+      }
+
+  closing : (c : Controller) → 1 ≤ v
+      → recommendIf true v probability level (entered v samples lent (step c initialise .state)) .state
+      ≡ final (c .control .settings) (map core (c .control .channels)) (c .control .since) (c .predictor .settings) (c .predictor .rings)
+  unfolding final processChannels withAppliedInputVolume initialize aggregated
+  closing c positive =
+      ap (λ (channels : List MonoInputVolumeController). record {
+        control = record {
+          settings = c .control .settings;
+          channels = channels;
+          since = c .control .since;
+          used = true;
+          applied = Nothing;
+          volume = raisedFor (Volume v) (c .control .settings .least) (aggregateOf channels .volume);
+          controlling = aggregateOf channels .channel;
+        };
+        predictor = enteredIf true samples lent (c .predictor);
+      })
+      (all-finished (rmsErrorOf level (c .control .settings .«min_target») (c .control .settings .«max_target»)) probability v positive (c .control .channels))
+
+module _ (p : Predictor.Settings) (s : Settings) (n : ℕ) (window : 1 ≤ p .window) (ratio : RatioFromZero s) (l : LeadIn n (quietFor p n) (enoughFor p s)) where
+  -- the state that the lead-in leads to, by the records that its list gave
+  pub canon : List (List Level) → Controller
+  canon grown = final (l .volume) (l .samples) (l .lent) (l .probability) (l .level) s (replicate n (core (freshChannel s))) (s .«clipped_wait») p (map (take (capacityOf p)) grown)
+
+  module _ (grown : List (List Level)) (k : ℕ) (c : Controller) (b : Kept p s n c) (h : Led p s grown k c) (e : enoughFor p s ≤ k) where
+    abbrev first : Controller
+    first = step c initialise .state
+
+    abbrev second : Controller
+    second = entered (l .volume) (l .samples) (l .lent) first
+
+    kept-first : Kept p s n first
+    kept-first = kept-step p s n initialise c b
+
+    to-second : step first (frame (pos (l .volume)) (l .samples) (l .lent)) .state ≡ second
+    unfolding initialize aggregated
+    to-second =
+        step-accepted n (l .volume) (l .samples) (l .lent) first (count-of s n (first .control) (kept-first .control)) (l .accepted)
+        ∙ quiet-frame p s n window ratio (l .volume) (l .samples) (l .lent) grown k first kept-first (l .still) (led-initialise p s n grown k c h)
+        (ready-window p s n k e) (ready-since p s n grown k c b h e)
+
+    to-final : recommendIf true (l .volume) (l .probability) (l .level) second .state ≡ canon grown
+    unfolding canon
+    to-final =
+        closing (l .volume) (l .samples) (l .lent) (l .probability) (l .level) c (l .positive)
+        ∙ (λ i. final (l .volume) (l .samples) (l .lent) (l .probability) (l .level) (b .control .settings i) (b .control .cores i) (ready-since p s n grown k c b h e i) (b .settings i)
+        (ready-rings p s n grown k c b h e i))
+
+    to-third : step second (recommendation (l .probability) (l .level)) .state ≡ canon grown
+    unfolding withAppliedInputVolume initialize aggregated
+    to-third = step-recommended (l .probability) (l .level) (l .volume) second refl refl ∙ to-final
+
+    kept-second : Kept p s n second
+    kept-second = subst (Kept p s n) to-second (kept-step p s n (frame (pos (l .volume)) (l .samples) (l .lent)) first kept-first)
+
+    kept-third : Kept p s n (canon grown)
+    kept-third = subst (Kept p s n) to-third (kept-step p s n (recommendation (l .probability) (l .level)) second kept-second)
+
+    abbrev rest : List Call
+    rest = l .afterFrame ++ (recommendation (l .probability) (l .level) ∷ l .afterRecommendation)
+
+    -- from the initialise on
+    ending : after first (l .afterInitialise ++ (frame (pos (l .volume)) (l .samples) (l .lent) ∷ rest)) ≡ canon grown
+    unfolding after
+    ending =
+        skip n (l .afterInitialise) _ first (count-of s n (first .control) (kept-first .control)) (all-left (isRefused n) (l .afterInitialise) _ (l .refused))
+        ∙ ap (λ (x : Controller). after x rest) to-second
+        ∙ skip n (l .afterFrame) _ second (count-of s n (second .control) (kept-second .control)) (all-left (isRefused n) (l .afterFrame) _ (all-right (isRefused n) (l .afterInitialise) _ (l .refused)))
+        ∙ ap (λ (x : Controller). after x (l .afterRecommendation)) to-third
+        ∙ after-refused n (l .afterRecommendation) (canon grown) (count-of s n (canon grown .control) (kept-third .control))
+        (all-right (isRefused n) (l .afterFrame) _ (all-right (isRefused n) (l .afterInitialise) _ (l .refused)))
+
+  abbrev pub grownOf : List (List Level)
+  grownOf = grownIn n (l .body) (replicate n [])
+
+  -- THE LAW: the lead-in leads every controller that keeps what calls keep to one state
+  pub led-to : (c : Controller) → Kept p s n c → after c (callsOf n (quietFor p n) l) ≡ canon grownOf
+  unfolding callsOf after
+  led-to c b =
+      let on = step c (captureSwitch true) .state in
+      let b-on : Kept p s n on = kept-step p s n (captureSwitch true) c b in
+      after-append (l .body) _ on
+      ∙ ending grownOf (acceptedIn n (l .body) + 0) (after on (l .body)) (kept-after p s n (l .body) on b-on)
+      (led-after p s n window ratio (l .body) (replicate n []) 0 on b-on (l .calm) (led-start p s n c b)) (omega (arith, l .long))

@@ -1,0 +1,138 @@
+-- Parts of the lead-in that are needed: for each a past that can be told from no past at all. Assumes nothing.
+use mathlib.Core.Path.{_≡_, refl, ap}
+use mathlib.Core.Bool.{false}
+use mathlib.Core.List.{List, [], _∷_, _++_}
+use Prim.Native.Nat.{ℕ}
+use native.Mathlib.Omega.{arith}
+use lib.Dec.{lit≤}
+use lib.IntN.{pos}
+use lib.Ieee.{fin, add, mul, div, lt, le, eq, ofInt, ofBits}
+use lib.ListN.{length, replicate}
+use Rattle.numbers.specs.Listed.{listed}
+use Rattle.numbers.specs.Natural.{withinOf}
+use Rattle.levels.specs.Decibels.{minus, less, atMost}
+use Rattle.levels.specs.FloatParts.{magnitudeOf}
+use Rattle.levels.specs.Level as Decibel
+use Rattle.levels.specs.Level.{dbfs}
+use Rattle.gain_map.specs.GainMap.{gain}
+use Rattle.gain_map.specs.VolumeUpdate.{walk}
+use Rattle.clipping_predictor_level_buffer.specs.declared.level.Level.{Level}
+use Rattle.clipping_predictor_level_buffer.specs.Level.{levelOf}
+use Rattle.clipping_predictor_level_buffer.specs.Metrics.{metricsOver, partialMetrics}
+use Rattle.clipping_predictor_level_buffer.specs.Statistics.{plusZero, sum, mean, largest}
+use Rattle.clipping_predictor.specs.Tree.{reached}
+use Rattle.clipping_predictor.specs.Estimate.{dropBy, adaptiveDrop, estimateTree}
+use Rattle.clipping_predictor.specs.Predictor.{pushEach, frameFits}
+use Rattle.mono_input_volume_controller.specs.declared.config.Settings.{Settings}
+use Rattle.mono_input_volume_controller.specs.declared.config.Checked.the-variants.{InOrder}
+use Rattle.mono_input_volume_controller.specs.declared.speech_level.SpeechLevel.the-variants.{Absent}
+use Rattle.input_volume_controller.specs.ClippedRatio.{countOf, clippedIn, mostClipped, clippedRatio}
+use Rattle.mono_input_volume_controller.specs.SpeechLevel.{rmsErrorOf}
+use Rattle.mono_input_volume_controller.specs.Mono.{isUsers}
+use Rattle.mono_input_volume_controller.specs.Config.{defaults, settingsFrom, settingsOf}
+use Rattle.input_volume_controller.specs.Channels.{called, aggregateOf}
+use Rattle.input_volume_controller.specs.ControlCalls.{withAppliedInputVolume, initialize, lowerChannels}
+use Rattle.input_volume_controller.specs.Controller.{fresh}
+use Rattle.input_volume_controller.specs.Frame.{analyzeInputAudio}
+use Rattle.input_volume_controller.specs.Recommendation.{recommendInputVolume}
+use Rattle.input_volume_controller.specs.Calls.{Call, frame, recommendation, initialise, Answer, after, answers}
+use Rattle.claims.specs.LeadIn.{all, accepts, acceptedBy, acceptedIn, isQuiet, quiet, isCalm, LeadIn}
+use Rattle.claims.specs.TwoPasts.{enough, RatioFromZero}
+use Rattle.claims.specs.Sharp.{waiting}
+use Rattle.claims.specs.Needed.{withoutInitialise, withVolumeZero, withCaptureOff, PartsAreNeeded}
+
+abbrev settings : Settings
+settings = settingsFrom (waiting 0)
+
+in-order : settingsOf (waiting 0) ≡ InOrder settings
+unfolding defaults settingsOf ofInt ofBits le
+in-order = refl
+
+from-zero : RatioFromZero settings
+unfolding defaults settingsFrom ofBits le
+from-zero = tt
+
+-- frames of one sample: of zero, and of 32,767, which is clipped
+abbrev still : ℕ → Call
+still volume = frame (pos volume) 1 (plusZero ∷ [])
+
+abbrev clipped : ℕ → Call
+clipped volume = frame (pos volume) 1 (fin false 32767 (pos 0) ∷ [])
+
+lead : LeadIn 1 quiet (enough settings)
+unfolding settingsFrom withinOf frameFits all accepts acceptedBy acceptedIn isQuiet quiet isCalm ofInt le eq
+lead = record {
+  body = replicate 14 (still 50);
+  afterInitialise = [];
+  afterFrame = [];
+  afterRecommendation = [];
+  volume = 255;
+  samples = 1;
+  lent = plusZero ∷ [];
+  probability = plusZero;
+  level = Absent;
+  calm = tt;
+  long = lit≤ tt;
+  accepted = tt;
+  still = tt;
+  positive = lit≤ tt;
+  refused = tt;
+}
+
+-- what an answer shows: the controller's volume, and how many records the ring stores
+volumeIn : List Answer → ℕ
+volumeIn [] = 0
+volumeIn (a ∷ rest) = a .volume
+
+lengthOf : List (List Level) → ℕ
+lengthOf [] = 0
+lengthOf (r ∷ rings) = length r
+
+storedIn : List Answer → ℕ
+storedIn [] = 0
+storedIn (a ∷ rest) = lengthOf (a .stored)
+
+after-calls : List Call → List Call → List Answer
+after-calls calls more = answers (after (fresh settings 1) calls) more
+
+-- a clipped frame of the past has lowered the ceiling, and a clipped frame shows it
+past-clipped : List Call
+past-clipped = clipped 200 ∷ []
+
+-- a recommendation of the past has ended the startup, so that a volume of 0 is left alone
+past-started : List Call
+past-started = still 200 ∷ recommendation plusZero Absent ∷ []
+
+record Shown : Type 0 where
+  lowered : volumeIn (after-calls (past-clipped ++ withoutInitialise lead) (clipped 255 ∷ [])) ≡ 225
+  unlowered : volumeIn (after-calls (withoutInitialise lead) (clipped 255 ∷ [])) ≡ 240
+  muted : volumeIn (after-calls (past-started ++ withVolumeZero lead) (initialise ∷ [])) ≡ 0
+  unmuted : volumeIn (after-calls (withVolumeZero lead) (initialise ∷ [])) ≡ 20
+  kept : storedIn (after-calls (past-started ++ withCaptureOff lead) (initialise ∷ [])) ≡ 2
+  unkept : storedIn (after-calls (withCaptureOff lead) (initialise ∷ [])) ≡ 1
+
+computed : Shown
+unfolding volumeIn lengthOf storedIn after-calls past-clipped past-started lead listed withinOf minus less atMost magnitudeOf Decibel.levelOf dbfs gain walk levelOf metricsOver partialMetrics sum mean largest dropBy adaptiveDrop estimateTree pushEach frameFits reached after answers called aggregateOf countOf clippedIn mostClipped clippedRatio rmsErrorOf isUsers defaults settingsFrom withAppliedInputVolume initialize lowerChannels analyzeInputAudio recommendInputVolume ofInt ofBits add mul div lt le
+computed = record { lowered = refl; unlowered = refl; muted = refl; unmuted = refl; kept = refl; unkept = refl }
+
+-- THE CLAIM
+pub parts-are-needed : PartsAreNeeded
+unfolding after-calls
+parts-are-needed = record {
+  settings = settings;
+  made = in-order;
+  ratio = from-zero;
+  lead = lead;
+  initialise-needed = λ alike.
+      let e : volumeIn (after-calls (past-clipped ++ withoutInitialise lead) (clipped 255 ∷ [])) ≡ volumeIn (after-calls (withoutInitialise lead) (clipped 255 ∷ [])) =
+      ap volumeIn (alike past-clipped [] (clipped 255 ∷ [])) in
+      omega (arith, e, computed .lowered, computed .unlowered);
+  volume-needed = λ alike.
+      let e : volumeIn (after-calls (past-started ++ withVolumeZero lead) (initialise ∷ [])) ≡ volumeIn (after-calls (withVolumeZero lead) (initialise ∷ [])) =
+      ap volumeIn (alike past-started [] (initialise ∷ [])) in
+      omega (arith, e, computed .muted, computed .unmuted);
+  capture-needed = λ alike.
+      let e : storedIn (after-calls (past-started ++ withCaptureOff lead) (initialise ∷ [])) ≡ storedIn (after-calls (withCaptureOff lead) (initialise ∷ [])) =
+      ap storedIn (alike past-started [] (initialise ∷ [])) in
+      omega (arith, e, computed .kept, computed .unkept);
+}

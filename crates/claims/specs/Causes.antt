@@ -1,0 +1,67 @@
+-- Document 01, "What a call can say no to", as a table: for each call on a controller, and for its making, the causes about its inputs in rising number, and the first that holds. Definitions only.
+use mathlib.Core.Bool.{Bool, true, false, not, _&&_, _||_}
+use mathlib.Core.List.{List, [], _∷_}
+use mathlib.Core.Option.{Option, none, some}
+use Prim.Native.Nat.{ℕ, _*_}
+use lib.Dec.{ltb, eqb}
+use lib.IntN.{ℤ, pos, negsuc}
+use lib.Signed.{ltZ}
+use lib.Ieee.{Float, binary32, le, ofInt}
+use lib.ListN.{length}
+use Rattle.mono_input_volume_controller.specs.declared.config.Config.{Config}
+use Rattle.input_volume_controller.specs.Calls.{Call, frame, recommendation, initialise, captureSwitch}
+
+-- a cause of the table: its number, and whether it holds
+pub record Cause : Type 0 where
+  pub number : ℕ
+  pub holds : Bool
+
+-- "returns the first that holds"
+abbrev pub firstIf : Bool → ℕ → Option ℕ → Option ℕ
+firstIf true number later = some number
+firstIf false number later = later
+
+abbrev pub firstOf : List Cause → Option ℕ
+firstOf [] = none
+firstOf (cause ∷ causes) = firstIf (cause .holds) (cause .number) (firstOf causes)
+
+-- "not 0 to 255", and the like
+abbrev pub outside : ℤ → ℤ → ℤ → Bool
+outside low high x = ltZ x low || ltZ high x
+
+-- "not 0 to 1, or not a number": a not-a-number is in no order
+abbrev pub outsideUnit : Float → Bool
+outsideUnit x = not (le (ofInt binary32 (pos 0)) x && le x (ofInt binary32 (pos 1)))
+
+-- a frame, with the count of channels
+abbrev pub frameCauses : ℕ → ℤ → ℕ → List Float → List Cause
+frameCauses channels volume samples lent =
+    -- "a volume not 0 to 255"
+    record { number = 8; holds = outside (pos 0) (pos 255) volume }
+    -- "samples per channel not 1 to 480, or lent samples not channels × that"
+    ∷ record { number = 9; holds = ltb samples 1 || (ltb 480 samples || not (eqb (length lent) (channels * samples))) }
+    ∷ []
+
+-- no other call on a controller can be refused
+abbrev pub callCauses : ℕ → Call → List Cause
+callCauses channels (frame volume samples lent) = frameCauses channels volume samples lent
+callCauses channels (recommendation probability level) = []
+callCauses channels initialise = []
+callCauses channels (captureSwitch on) = []
+
+-- the making
+abbrev pub makingCauses : ℤ → Config → List Cause
+makingCauses channels config =
+    -- "channel count not 1 to 8"
+    record { number = 1; holds = outside (pos 1) (pos 8) channels }
+    -- "min_input_volume or clipped_level_min not 0 to 255"
+    ∷ record { number = 2; holds = outside (pos 0) (pos 255) (config .«min_input_volume») || outside (pos 0) (pos 255) (config .«clipped_level_min») }
+    -- "clipped_level_step not 1 to 255"
+    ∷ record { number = 3; holds = outside (pos 1) (pos 255) (config .«clipped_level_step») }
+    -- "clipped_wait_frames or update_input_volume_wait_frames not 0 to 65,535"
+    ∷ record { number = 4; holds = outside (pos 0) (pos 65535) (config .«clipped_wait_frames») || outside (pos 0) (pos 65535) (config .«update_input_volume_wait_frames») }
+    -- "a target not -90 to 30 dBFS"; `negsuc 89` is -90
+    ∷ record { number = 5; holds = outside (negsuc 89) (pos 30) (config .«target_range_max_dbfs») || outside (negsuc 89) (pos 30) (config .«target_range_min_dbfs») }
+    -- "speech probability or speech ratio threshold not 0 to 1, or not a number"
+    ∷ record { number = 6; holds = outsideUnit (config .«speech_probability_threshold») || outsideUnit (config .«speech_ratio_threshold») }
+    ∷ []

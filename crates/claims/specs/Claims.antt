@@ -1,0 +1,49 @@
+-- The auditor's page: what is claimed of the whole product, each claim one named type in a file of its own. A claim speaks of the definitions: `step` and `after` of
+-- `input_volume_controller/specs/Calls.antt` say what the calls do, and the contracts in `input_volume_controller/src/lib.rt` say that the functions do just that: `CreatedOf` of the making, `Does`
+-- of each call. So to believe a claim of the running code, a reader has to read its statement, the definitions that it names, and those contracts; the proofs are checked.
+-- That every call is total, and hands its state back in good order, the contracts say by themselves. Definitions only.
+use Rattle.claims.specs.Run.{RunsAreRuns}
+use Rattle.claims.specs.Refused.{RefusedCalls}
+use Rattle.claims.specs.RefusedBelow.{RefusedBelow}
+use Rattle.claims.specs.Bounds.{Bounds}
+use Rattle.claims.specs.Broken.{BrokenLeaves}
+use Rattle.claims.specs.Levels.{LevelsWithinTwo}
+use Rattle.claims.specs.TwoPasts.{TwoPasts, TwoPastsInEveryMode}
+use Rattle.claims.specs.InCode.{TwoPastsInCode}
+use Rattle.claims.specs.Sharp.{LeadInsExist, AcceptedIsNotRefused, TwoFewerAreTooFew}
+use Rattle.claims.specs.Needed.{PartsAreNeeded}
+use Rattle.claims.specs.Starred.{StarredCases}
+use Rattle.claims.specs.GainTable.{NeverFalls}
+use Rattle.claims.specs.Equal.{EqualChannels}
+use Rattle.claims.specs.None.{NoneExactly}
+
+pub record Claims : Type 0 where
+  -- a run of the Rattle functions is a run of the definition
+  pub runs : RunsAreRuns
+  -- a refused call changes nothing, and its number is the first cause in the table's order that holds
+  pub refused : RefusedCalls
+  -- and so say the calls of the crates below
+  pub refused-below : RefusedBelow
+  -- with capture on and an applied volume above 0, every recommendation lies from min_input_volume to 255; every answered volume is from 0 to 255
+  pub bounds : Bounds
+  -- a broken sample is gone from every ring once delay + reference frames were accepted with capture on
+  pub broken : BrokenLeaves
+  -- the level functions are within two thousandths
+  pub levels : LevelsWithinTwo
+  -- two controllers with equal settings cannot be told apart after the same lead-in, whatever their pasts: of the definitions, of the code, and for every predictor
+  pub two-pasts : TwoPasts
+  pub two-pasts-in-code : TwoPastsInCode
+  pub two-pasts-in-every-mode : TwoPastsInEveryMode
+  -- that claim is not empty, and asks for no more than it needs: lead-ins exist, two frames fewer do not do, and no part may be left out
+  pub lead-ins-exist : LeadInsExist
+  pub accepted-is-not-refused : AcceptedIsNotRefused
+  pub two-fewer-are-too-few : TwoFewerAreTooFew
+  pub parts-are-needed : PartsAreNeeded
+  -- the starred cases
+  pub starred : StarredCases
+  -- the gain table never falls
+  pub gains : NeverFalls
+  -- after any calls all channels are equal, and the first controls
+  pub equal : EqualChannels
+  -- the recommendation is none exactly if no frame was accepted since the latest of making, initialise and recommendation with capture on
+  pub none : NoneExactly
