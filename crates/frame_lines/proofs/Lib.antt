@@ -1,0 +1,14 @@
+pub mod Tests
+pub mod Weighed
+pub mod Parts
+pub mod Heads
+pub mod Signed16
+pub mod SampleTexts
+pub mod Parses
+pub mod Pieces
+pub mod Meanings
+pub mod Feeding
+pub mod Keeping
+pub mod Answers
+pub mod Turns
+pub mod Examples

@@ -1,0 +1,10 @@
+pub mod Digits
+pub mod Weights
+pub mod Samples
+pub mod Line
+pub mod Parsed
+pub mod Reading
+pub mod Answer
+pub mod Lines
+pub mod Stream
+pub mod Feeds
