@@ -28,7 +28,8 @@ use Rattle.input_volume_controller.specs.Channels.{freshChannel}
 use Rattle.input_volume_controller.specs.Control.{Control}
 use Rattle.input_volume_controller.specs.ControlCalls.{aggregated, withAppliedInputVolume, initialize, switchCapture, lowerChannels, processChannels}
 use Rattle.input_volume_controller.specs.Controller.{Controller, freshWith}
-use Rattle.input_volume_controller.specs.Frame.{askedOf, predictedBy, handleIf, unlessWaiting, ifUsed, unlessRefused, analyzeInputAudio}
+use Rattle.clipping_predictor.specs.AllRings.{predictedBy}
+use Rattle.input_volume_controller.specs.Frame.{askedOf, handleIf, unlessWaiting, ifUsed, unlessRefused, analyzeInputAudio}
 use Rattle.input_volume_controller.specs.Recommendation.{recommendIf, unlessNone, recommendInputVolume}
 use Rattle.input_volume_controller.specs.Calls.{Call, frame, recommendation, initialise, captureSwitch, step, after}
 use Rattle.claims.proofs.Lists.{map-replicate}

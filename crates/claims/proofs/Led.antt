@@ -16,7 +16,8 @@ use Rattle.clipping_predictor.specs.Predictor.{enteredIf}
 use Rattle.mono_input_volume_controller.specs.declared.config.Settings.{Settings}
 use Rattle.input_volume_controller.specs.ControlCalls.{aggregated, withAppliedInputVolume, lowerChannels}
 use Rattle.input_volume_controller.specs.Controller.{Controller}
-use Rattle.input_volume_controller.specs.Frame.{askedOf, predictedBy, handleIf, unlessWaiting}
+use Rattle.clipping_predictor.specs.AllRings.{predictedBy}
+use Rattle.input_volume_controller.specs.Frame.{askedOf, handleIf, unlessWaiting}
 use Rattle.input_volume_controller.specs.Calls.{step}
 use Rattle.claims.specs.LeadIn.{isLow}
 use Rattle.claims.proofs.Rings.{Match, match-empty}

@@ -20,7 +20,8 @@ use Rattle.mono_input_volume_controller.specs.declared.config.Settings.{Setting
 use Rattle.input_volume_controller.specs.ControlCalls.{aggregated, withAppliedInputVolume}
 use Rattle.input_volume_controller.specs.Controller.{Controller}
 use Rattle.input_volume_controller.specs.Reply.{Stepped}
-use Rattle.input_volume_controller.specs.Frame.{askedOf, predictedBy, handleIf, unlessWaiting, ifUsed, unlessRefused}
+use Rattle.clipping_predictor.specs.AllRings.{predictedBy}
+use Rattle.input_volume_controller.specs.Frame.{askedOf, handleIf, unlessWaiting, ifUsed, unlessRefused}
 use Rattle.claims.specs.LeadIn.{all, isSound, isLow, quietFor}
 use Rattle.claims.proofs.Lists.{and-l, and-r}
 use Rattle.claims.proofs.Share.{ratio-not-above}

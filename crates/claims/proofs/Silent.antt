@@ -28,7 +28,7 @@ use Rattle.clipping_predictor.specs.declared.modes.Estimated.{Estimated}
 use Rattle.clipping_predictor.specs.Tree.{Tree, leaf, test, reached}
 use Rattle.clipping_predictor.specs.Estimate.{modeTree, capacityOf, windowsTree, unlessLow, estimateTree, estimated}
 use Rattle.clipping_predictor.specs.Predictor.{Predictor}
-use Rattle.input_volume_controller.specs.Frame.{joined, predictedBy}
+use Rattle.clipping_predictor.specs.AllRings.{joined, predictedBy}
 use Rattle.claims.specs.LeadIn.{all, comparedIn, isLow}
 use Rattle.claims.proofs.Lists.{and-l, and-r, all-take}
 use Rattle.claims.proofs.Rings.{Match}

@@ -20,7 +20,8 @@ use Rattle.input_volume_controller.specs.ClippedRatio.{clippedRatio}
 use Rattle.input_volume_controller.specs.Control.{Control, withApplied}
 use Rattle.input_volume_controller.specs.ControlCalls.{aggregated, withAppliedInputVolume, initialize, switchCapture, lowerChannels, oneFrameMore, processChannels}
 use Rattle.input_volume_controller.specs.Controller.{Controller}
-use Rattle.input_volume_controller.specs.Frame.{askedOf, predictedBy, handleIf, unlessWaiting, ifUsed, unlessRefused, analyzeInputAudio}
+use Rattle.clipping_predictor.specs.AllRings.{predictedBy}
+use Rattle.input_volume_controller.specs.Frame.{askedOf, handleIf, unlessWaiting, ifUsed, unlessRefused, analyzeInputAudio}
 use Rattle.input_volume_controller.specs.Recommendation.{recommendIf, unlessNone, recommendInputVolume}
 use Rattle.input_volume_controller.specs.Calls.{Call, frame, recommendation, initialise, captureSwitch, step, after}
 

@@ -10,7 +10,7 @@ use lib.Ieee.{Float}
 use lib.ListN.{length, getD, replicate, getD-replicate, length-replicate}
 use borrow.Author.Tests.{le-leb, leb-true, eqb-true}
 use Rattle.numbers.specs.Listed.{listed}
-use Rattle.numbers.proofs.Listed.{length-listed, listed-same, map-listed, listed-constant}
+use Rattle.numbers.proofs.Listed.{length-listed, getD-listed, listed-same, map-listed, listed-constant}
 use Rattle.numbers.proofs.Arrays.{Replaced}
 use Rattle.numbers.proofs.Signs.{clash}
 use Rattle.numbers.specs.declared.refusal.Refusal.{Refusal}
@@ -95,6 +95,32 @@ PushedAt samples frame c old new = Pushed old (levelOf (partOf samples frame c))
 abbrev pub EmptiedAt : ℕ → ClippingPredictorLevelBuffer → ClippingPredictorLevelBuffer → Type 0
 EmptiedAt c old new = Emptied (old .capacity) new
 
+-- a ring that a level has entered
+module _ (s : Settings) (old new : ClippingPredictorLevelBuffer) (level : Level) (on : s .enabled ≡ true) (good : GoodFor s old) (pushed : Pushed old level new) where
+  pub pushed-good : GoodFor s new
+  pushed-good = record { settings = good .settings; ring = pushed .good; capacity = pushed .capacity-is ∙ good .capacity; off = λ e. clash (sym on ∙ e) }
+
+  pub pushed-stored : stored new ≡ push (capacityOf s) level (stored old)
+  pushed-stored = pushed .stored-is ∙ ap (λ (n : ℕ). push n level (stored old)) (good .capacity ∙ ap (λ (b : Bool). capacityIf b (s .delay + s .reference)) (sym on))
+
+-- the rings that a frame has entered
+entered-rings : (p : ClippingPredictor) (samples : ℕ) (frame : List Float)
+    → enteredIf true samples frame (viewOf p) .rings ≡ listed (λ c. push (capacityOf (p .settings)) (levelOf (partOf samples frame c)) (stored (ringAt p c))) (p .channels)
+unfolding viewOf
+entered-rings p samples frame =
+    ap (λ (n : ℕ). pushEach (capacityOf (p .settings)) (levelsOf n samples frame) (listed (λ c. stored (ringAt p c)) (p .channels))) (length-listed (λ c. stored (ringAt p c)) (p .channels))
+    ∙ push-listed (capacityOf (p .settings)) (λ c. levelOf (partOf samples frame c)) (λ c. stored (ringAt p c)) (p .channels)
+
+pub entered-length : (p : ClippingPredictor) (samples : ℕ) (frame : List Float) → length (enteredIf true samples frame (viewOf p) .rings) ≡ p .channels
+entered-length p samples frame = ap length (entered-rings p samples frame) ∙ length-listed _ (p .channels)
+
+pub entered-at : (p : ClippingPredictor) (samples : ℕ) (frame : List Float) (c : ℕ) (new : ClippingPredictorLevelBuffer) → Good p → p .settings .enabled ≡ true → c < p .channels
+    → PushedAt samples frame c (ringAt p c) new → stored new ≡ getD (enteredIf true samples frame (viewOf p) .rings) c none
+entered-at p samples frame c new good on h pushed =
+    pushed-stored (p .settings) (ringAt p c) new (levelOf (partOf samples frame c)) on (good .each c h) pushed
+    ∙ sym (ap (λ (l : List (List Level)). getD l c none) (entered-rings p samples frame)
+    ∙ getD-listed (λ i. push (capacityOf (p .settings)) (levelOf (partOf samples frame i)) (stored (ringAt p i))) (p .channels) c none h)
+
 module _ (p r : ClippingPredictor) (good : Good p) (kept : Kept p r) where
   view-of : (f : ℕ → List Level) → ((c : ℕ) → c < p .channels → stored (ringAt r c) ≡ f c) → viewOf r ≡ record { settings = p .settings; rings = listed f (p .channels) }
   unfolding viewOf
@@ -115,16 +141,11 @@ module _ (p r : ClippingPredictor) (good : Good p) (kept : Kept p r) where
   pub all-pushed : (samples : ℕ) (frame : List Float) → p .settings .enabled ≡ true → Replaced noRing (PushedAt samples frame) (p .channels) (p .rings) (r .rings) → Entered p samples frame r
   unfolding viewOf
   all-pushed samples frame on done = record {
-    good = good-of (done .same-length) (λ c h. let g = good .each c h in let q = done .done c h in record { settings = good .settings; ring = q .good; capacity = q .capacity-is ∙ g .capacity; off = λ e. clash (sym on ∙ e) });
+    good = good-of (done .same-length) (λ c h. pushed-good (p .settings) (ringAt p c) (ringAt r c) (levelOf (partOf samples frame c)) on (good .each c h) (done .done c h));
     settings = kept .settings;
     view =
-        view-of (λ c. push (capacityOf (p .settings)) (levelOf (partOf samples frame c)) (stored (ringAt p c)))
-        (λ c h. done .done c h .stored-is ∙ ap (λ (n : ℕ). push n (levelOf (partOf samples frame c)) (stored (ringAt p c))) (good .each c h .capacity ∙ ap (λ (b : Bool). capacityIf b (p .settings .delay + p .settings .reference)) (sym on)))
-        ∙ (λ i. record {
-          settings = p .settings;
-          rings = (sym (push-listed (capacityOf (p .settings)) (λ c. levelOf (partOf samples frame c)) (λ c. stored (ringAt p c)) (p .channels))
-              ∙ ap (λ (n : ℕ). pushEach (capacityOf (p .settings)) (levelsOf n samples frame) (listed (λ c. stored (ringAt p c)) (p .channels))) (sym (length-listed (λ c. stored (ringAt p c)) (p .channels)))) i;
-        });
+        view-of (λ c. push (capacityOf (p .settings)) (levelOf (partOf samples frame c)) (stored (ringAt p c))) (λ c h. pushed-stored (p .settings) (ringAt p c) (ringAt r c) (levelOf (partOf samples frame c)) on (good .each c h) (done .done c h))
+        ∙ (λ i. record { settings = p .settings; rings = sym (entered-rings p samples frame) i });
   }
 
   pub all-emptied : Replaced noRing EmptiedAt (p .channels) (p .rings) (r .rings) → ResetOf p r
@@ -165,5 +186,5 @@ off-same p samples frame good e =
     λ i. record {
       settings = p .settings;
       rings = (listed-same g (λ c. push (capacityOf (p .settings)) (f c) (g c)) (p .channels) (λ c h. good .each c h .off e ∙ sym (none-kept c))
-          ∙ sym (push-listed (capacityOf (p .settings)) f g (p .channels)) ∙ ap (λ (n : ℕ). pushEach (capacityOf (p .settings)) (levelsOf n samples frame) (listed g (p .channels))) (sym (length-listed g (p .channels)))) i;
+          ∙ sym (entered-rings p samples frame)) i;
     }

@@ -3,6 +3,7 @@ pub mod Signed
 pub mod Windows
 pub mod Given
 pub mod Frames
+pub mod Joins
 pub mod Rings
 pub mod Drops
 pub mod Ceilings

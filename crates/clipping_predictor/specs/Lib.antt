@@ -3,3 +3,4 @@ pub mod Settings
 pub mod Estimate
 pub mod GoodFor
 pub mod Predictor
+pub mod AllRings

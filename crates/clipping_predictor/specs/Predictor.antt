@@ -135,12 +135,15 @@ pub record Entered (p : ClippingPredictor) (samples : ℕ) (frame : List Float) 
   pub settings : r .settings ≡ p .settings
   pub view : viewOf r ≡ enteredIf true samples frame (viewOf p)
 
--- a refused frame hands the very predictor back
+-- a frame that does not fit hands the very predictor back
+pub record WithFrame (p : ClippingPredictor) (samples : ℕ) (frame : List Float) (r : ClippingPredictor) : Type 0 where
+  pub good : Good r
+  pub view : viewOf r ≡ enteredIf (frameFits (p .channels) samples frame) samples frame (viewOf p)
+  pub same : frameFits (p .channels) samples frame ≡ false → r ≡ p
+
 pub record AnalyzedOf (p : ClippingPredictor) (samples : ℕ) (frame : List Float) (r : Analyzed) : Type 0 where
-  pub good : Good (r .predictor)
   pub answer : r .answer ≡ outcomeIf (frameFits (p .channels) samples frame)
-  pub view : viewOf (r .predictor) ≡ enteredIf (frameFits (p .channels) samples frame) samples frame (viewOf p)
-  pub same : frameFits (p .channels) samples frame ≡ false → r .predictor ≡ p
+  pub entered : WithFrame p samples frame (r .predictor)
 
 -- "Reset empties it."
 abbrev pub emptied : Predictor → Predictor

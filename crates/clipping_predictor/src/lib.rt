@@ -8,8 +8,13 @@ ghost use Rattle.clipping_predictor_level_buffer.specs.Level.{maxSamplesPerChan
 ghost use Rattle.clipping_predictor_level_buffer.specs.Ring.{Pushed};
 ghost use Rattle.clipping_predictor_level_buffer.specs.Ring.{Good as GoodRing};
 ghost use Rattle.clipping_predictor.specs.Settings.{Good as GoodSettings};
-ghost use Rattle.clipping_predictor.specs.Predictor.{maxChannels, Good, viewOf, Fresh, RefusedWith, CreatedOf, frameFits, Entered, AnalyzedOf, ResetOf, argumentsOf, dropOr, estimateOf};
+ghost use Rattle.clipping_predictor.specs.AllRings.{EnteredOf, HeardOf};
+ghost use Rattle.clipping_predictor.specs.Predictor.{maxChannels, Good, viewOf, Fresh, RefusedWith, CreatedOf, frameFits, outcomeIf, AnalyzedOf, ResetOf, argumentsOf, dropOr, estimateOf};
 use crate::modes::Asked;
+use crate::modes::Estimated;
+use crate::modes::Question;
+use crate::modes::answered;
+use crate::modes::joined;
 use crate::settings::Checked;
 use crate::settings::ClippingPredictorConfig;
 use crate::settings::ClippingPredictorMode;
@@ -44,6 +49,12 @@ pub struct Created {
 // What a frame answers.
 pub struct Analyzed {
     pub answer: Outcome,
+    pub predictor: ClippingPredictor,
+}
+
+// The predictor after a frame, and what its rings answer then.
+pub struct Heard {
+    pub estimated: Estimated,
     pub predictor: ClippingPredictor,
 }
 
@@ -145,6 +156,15 @@ pub fn frame_fits(channels: u8, samples: usize, frame: &[f32]) -> bool
     frame.len() == (channels as usize) * samples
 }
 
+fn outcome_of(fits: bool) -> Outcome
+    ensures { λ r. ⌜ r ≡ outcomeIf fits ⌝ }
+{
+    if fits {
+        return Outcome::Accepted;
+    }
+    Outcome::Refused(Refusal::FrameSize)
+}
+
 // What an estimate is asked with, each number in its range.
 fn arguments_in_range(
     channels: usize,
@@ -195,42 +215,58 @@ fn arguments_in_range(
 }
 
 impl ClippingPredictor {
-    fn entered(self, samples: usize, frame: &[f32]) -> ClippingPredictor
+    // Each channel's level enters its ring, and the ring is asked.
+    fn entered(self, samples: usize, frame: &[f32], question: Question) -> Heard
         requires { ⌜ Good self × (self .settings .enabled ≡ true) × (frameFits (self .channels) samples (now frame) ≡ true) ⌝ }
-        ensures { λ r. ⌜ Entered self samples (now (frame .entry)) r ⌝ }
+        ensures { λ r. ⌜ EnteredOf self samples (now (frame .entry)) question r ⌝ }
     {
         let channels = self.channels;
+        let settings = self.settings;
         let mut p = self;
+        let mut e = modes::no_estimate();
         for c in 0..channels {
             let start = c * samples;
             let end = start + samples;
-            let ring = p.rings[c];
-            p.rings[c] = pushed(ring, &frame[start..end]);
+            let old = p.rings[c];
+            let ring = pushed(old, &frame[start..end]);
+            p.rings[c] = ring;
+            e = joined(e, answered(settings, ring, question));
         }
-        p
+        Heard {
+            estimated: e,
+            predictor: p,
+        }
     }
 
-    // A frame of all channels, one after another, each of `samples_per_channel` samples.
-    pub fn analyze(self, samples_per_channel: usize, frame: &[f32]) -> Analyzed
+    // The predictor after a frame of all channels, one after another, and what its rings then answer. A frame that does not fit, or that comes to a predictor which is off, changes nothing.
+    pub fn heard(self, samples_per_channel: usize, frame: &[f32], question: Question) -> Heard
         requires { ⌜ Good self ⌝ }
-        ensures { λ r. ⌜ AnalyzedOf self «samples_per_channel» (now (frame .entry)) r ⌝ }
+        ensures { λ r. ⌜ HeardOf self «samples_per_channel» (now (frame .entry)) question r ⌝ }
     {
         if !frame_fits(self.channels as u8, samples_per_channel, frame) {
-            return Analyzed {
-                answer: Outcome::Refused(Refusal::FrameSize),
+            return Heard {
+                estimated: modes::no_estimate(),
                 predictor: self,
             };
         }
         if !self.settings.enabled {
-            return Analyzed {
-                answer: Outcome::Accepted,
+            return Heard {
+                estimated: modes::no_estimate(),
                 predictor: self,
             };
         }
-        Analyzed {
-            answer: Outcome::Accepted,
-            predictor: self.entered(samples_per_channel, frame),
-        }
+        self.entered(samples_per_channel, frame, question)
+    }
+
+    // The same with nothing asked but whether the frame fits.
+    pub fn analyze(self, samples_per_channel: usize, frame: &[f32]) -> Analyzed
+        requires { ⌜ Good self ⌝ }
+        ensures { λ r. ⌜ AnalyzedOf self «samples_per_channel» (now (frame .entry)) r ⌝ }
+    {
+        let answer = outcome_of(frame_fits(self.channels as u8, samples_per_channel, frame));
+        let heard = self.heard(samples_per_channel, frame, Question::Nothing);
+        let predictor = heard.predictor;
+        Analyzed { answer, predictor }
     }
 
     pub fn reset(self) -> ClippingPredictor

@@ -11,6 +11,7 @@ ghost use Rattle.clipping_predictor.specs.Tree.{leaf};
 ghost use Rattle.clipping_predictor.specs.Settings.{Good};
 ghost use Rattle.clipping_predictor.specs.GoodFor.{GoodFor};
 ghost use Rattle.clipping_predictor.specs.Estimate.{dropBy, adaptiveDrop, wholeDb, nearestWhole, maxGainChange, projectedPeak, eventTree, peakTree, aboveTree, adaptiveTree, ceilingTree, modeTree, windowsTree, estimateTree, estimated, afterTest, CrestFactor, ProjectedPeak, projectedLimit};
+ghost use Rattle.clipping_predictor.specs.AllRings.{joined, estimatedFor};
 use crate::settings::ClippingPredictorMode;
 use crate::settings::Settings;
 use clipping_predictor_level_buffer::ClippingPredictorLevelBuffer;
@@ -37,6 +38,12 @@ pub struct Asked {
     pub step: u8,
     pub least: u8,
     pub most: u8,
+}
+
+// What is asked of the rings once a frame has entered them.
+pub enum Question {
+    Nothing,
+    Step(Asked),
 }
 
 // How far the level is to fall, 0 for none, and whether the estimate is near.
@@ -247,7 +254,7 @@ fn by_mode(s: Settings, window: Level, reference: Level, a: Asked) -> Estimated
     }
 }
 
-fn no_estimate() -> Estimated
+pub fn no_estimate() -> Estimated
     ensures { λ r. ⌜ r ≡ estimated (leaf 0) ⌝ }
 {
     Estimated {
@@ -285,4 +292,25 @@ pub fn estimate_for(s: Settings, ring: ClippingPredictorLevelBuffer, a: Asked) -
     let newest = ring.partial_metrics(0, s.window);
     let older = ring.partial_metrics(s.delay, s.reference);
     from_windows(s, a, newest, older)
+}
+
+// What a ring answers.
+pub fn answered(s: Settings, ring: ClippingPredictorLevelBuffer, question: Question) -> Estimated
+    requires { ⌜ GoodFor s ring ⌝ }
+    ensures { λ r. ⌜ r ≡ estimatedFor question s (stored ring) ⌝ }
+{
+    match question {
+        Question::Nothing => no_estimate(),
+        Question::Step(a) => estimate_for(s, ring, a),
+    }
+}
+
+// The larger drop of two estimates, and the mark of either.
+pub fn joined(a: Estimated, b: Estimated) -> Estimated
+    ensures { λ r. ⌜ r ≡ joined a b ⌝ }
+{
+    Estimated {
+        drop: larger(a.drop, b.drop),
+        near: either(a.near, b.near),
+    }
 }

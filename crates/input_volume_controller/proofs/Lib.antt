@@ -2,7 +2,7 @@ pub mod Clipped
 pub mod Ratios
 pub mod ChannelLists
 pub mod Volumes
-pub mod Predictions
 pub mod Making
 pub mod Whole
 pub mod Answers
+pub mod Numbered

@@ -14,13 +14,14 @@ use Rattle.mono_input_volume_controller.specs.declared.speech_level.SpeechLevel
 use Rattle.input_volume_controller.specs.declared.channels.ChannelCall.{ChannelCall}
 use Rattle.input_volume_controller.specs.declared.channels.Channels.{Channels}
 use Rattle.input_volume_controller.specs.declared.channels.Aggregate.{Aggregate}
+use Rattle.input_volume_controller.specs.declared.Applied.{Applied}
 use Rattle.input_volume_controller.specs.declared.Applied.the-variants.{Volume}
 use Rattle.input_volume_controller.specs.declared.volume_control.VolumeControl.{VolumeControl}
 use Rattle.mono_input_volume_controller.specs.SpeechLevel.{lowestDb, highestDb}
 use Rattle.mono_input_volume_controller.specs.MonoState.{maxInputVolume}
 use Rattle.input_volume_controller.specs.Channels.{channelsOf, called, eachCalled, aggregateOf}
 use Rattle.input_volume_controller.specs.Channels as Channels
-use Rattle.input_volume_controller.specs.Control.{Control, controlOf, Good, Becomes, withChannels, withSince, withUsed, withVolume}
+use Rattle.input_volume_controller.specs.Control.{Control, controlOf, Good, Becomes, withChannels, withSince, withUsed, withApplied, withVolume}
 use Rattle.input_volume_controller.specs.ControlCalls.{raisedFor, aggregated, withAppliedInputVolume, initialize, switchCapture, lowerChannels, processChannels}
 
 -- ---- the minimum
@@ -68,6 +69,18 @@ module _ (c : VolumeControl) (good : Good c) where
       let v = q ∙ ap (λ (x : Aggregate). raisedFor (c .applied) (c .settings .least) (x .volume)) p in
       let k = ap (λ (x : Aggregate). x .channel) p in
       record { good = record { settings = good .settings; channels = good .channels; volume = h }; is = λ i. withVolume (v i) (k i) (controlOf c) }
+
+  -- every channel called, and the volume taken with one volume pending and another left so
+  pub called-so : (channels : Channels) (said : List MonoInputVolumeController) (pending left : Applied) (a : Aggregate) (volume : ℕ) → Channels.Becomes said channels → volume ≤ maxInputVolume
+      → a ≡ aggregateOf (channelsOf channels) → volume ≡ raisedFor pending (c .settings .least) (a .volume)
+      → Becomes (withApplied left (aggregated (withApplied pending (withChannels said (controlOf c)))))
+      (record { settings = c .settings; channels = channels; since = c .since; used = c .used; applied = left; volume = volume; controlling = a .channel })
+  unfolding controlOf aggregated
+  called-so channels said pending left a volume b h p q =
+      let e = p ∙ ap aggregateOf (b .is) in
+      let v = q ∙ ap (λ (x : Aggregate). raisedFor pending (c .settings .least) (x .volume)) e in
+      let k = ap (λ (x : Aggregate). x .channel) e in
+      record { good = record { settings = good .settings; channels = b .good; volume = h }; is = λ i. withApplied left (withVolume (v i) (k i) (withChannels (b .is i) (controlOf c))) }
 
 -- ---- no call changes how many channels there are
 

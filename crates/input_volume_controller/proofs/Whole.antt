@@ -18,6 +18,7 @@ use Rattle.clipping_predictor.specs.declared.modes.Estimated.{Estimated}
 use Rattle.clipping_predictor.specs.declared.ClippingPredictor.{ClippingPredictor}
 use Rattle.clipping_predictor.specs.Predictor.{Predictor, ringAt, pushEach, enteredIf, emptied}
 use Rattle.clipping_predictor.specs.Predictor as PredictorOf
+use Rattle.clipping_predictor.specs.AllRings.{predictedBy}
 use Rattle.input_volume_controller.specs.declared.volume_control.VolumeControl.{VolumeControl}
 use Rattle.input_volume_controller.specs.declared.InputVolumeController.{InputVolumeController}
 use Rattle.input_volume_controller.specs.declared.Analysis.the-variants.{Accepted, Refused}
@@ -25,10 +26,10 @@ use Rattle.input_volume_controller.specs.declared.Analyzed.{Analyzed}
 use Rattle.input_volume_controller.specs.Control.{Control, controlOf}
 use Rattle.input_volume_controller.specs.Control as ControlOf
 use Rattle.input_volume_controller.specs.ControlCalls.{lowerChannels, oneFrameMore}
-use Rattle.input_volume_controller.specs.Controller.{Controller, viewOf, Good, Becomes}
-use Rattle.input_volume_controller.specs.Reply.{mark, Stepped}
-use Rattle.input_volume_controller.specs.Frame.{askedOf, predictedBy, handled, unlessWaiting}
-use Rattle.input_volume_controller.specs.Calls.{step, Framed}
+use Rattle.input_volume_controller.specs.Controller.{Controller, together, viewOf, Good, Becomes}
+use Rattle.input_volume_controller.specs.Reply.{Reply, mark, Stepped}
+use Rattle.input_volume_controller.specs.Frame.{askedOf, handled, unlessWaiting}
+use Rattle.input_volume_controller.specs.Calls.{Call, Does, ControlDoes, Framed}
 use Rattle.input_volume_controller.proofs.ChannelLists.{count-is}
 
 -- ---- its two parts
@@ -61,10 +62,30 @@ whole self c p said said-p good b g e n = record {
   is = λ i. record { control = b .is i; predictor = e i };
 }
 
+-- the change of a control's value has as many channels as the struct that it is the value of
+pub same-count : (self : VolumeControl) (said : Control) {r : VolumeControl} → ControlOf.Becomes said r → length (said .channels) ≡ length (controlOf self .channels) → r .channels .count ≡ self .channels .count
+same-count self said {r = r} b n = sym (control-count r) ∙ ap (λ (x : Control). length (x .channels)) (b .is) ∙ n ∙ control-count self
+
+-- a control's change beside a predictor, from the value to the struct
+pub beside : (p : Predictor) {x y : Reply} {said : Control} {r : VolumeControl} → x ≡ y → ControlOf.Becomes said r
+    → _≡_ {A = Stepped} (record { reply = x; state = record { control = said; predictor = p } }) (record { reply = y; state = record { control = controlOf r; predictor = p } })
+beside p e b = λ i. record { reply = e i; state = record { control = sym (b .is) i; predictor = p } }
+
 -- with the predictor as it was
 pub with-control : (self : InputVolumeController) (c : VolumeControl) (said : Control) → Good self → ControlOf.Becomes said c → length (said .channels) ≡ length (controlOf (self .control) .channels)
     → Becomes (record { control = said; predictor = PredictorOf.viewOf (self .predictor) }) (record { control = c; predictor = self .predictor })
 with-control self c said good b n = whole self c (self .predictor) said _ good b (good .predictor) refl (record { channels = n; rings = refl })
+
+-- a call that leaves the predictor alone
+pub does-whole : (self : InputVolumeController) (call : Call) (says : Reply) (r : VolumeControl) → Good self → ControlDoes (self .control) call says r → Does self call says (together r (self .predictor))
+unfolding viewOf
+does-whole self call says r good d =
+    let e = d .does (PredictorOf.viewOf (self .predictor)) in
+    record {
+      good = record { control = d .good; predictor = good .predictor; counts = good .counts ∙ sym (d .count) };
+      reply = sym (ap (λ (x : Stepped). x .reply) e);
+      view = sym (ap (λ (x : Stepped). x .state) e);
+    }
 
 -- ---- the rings
 

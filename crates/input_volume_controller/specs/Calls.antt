@@ -7,10 +7,14 @@ use lib.IntN.{ℤ}
 use lib.Ieee.{Float}
 use Rattle.numbers.specs.declared.refusal.Refusal.{Refusal}
 use Rattle.clipping_predictor_level_buffer.specs.declared.level.Level.{Level}
+use Rattle.clipping_predictor.specs.Predictor.{Predictor}
 use Rattle.mono_input_volume_controller.specs.declared.speech_level.SpeechLevel.{SpeechLevel}
 use Rattle.input_volume_controller.specs.declared.Analysis.the-variants.{Refused}
 use Rattle.input_volume_controller.specs.declared.Analyzed.{Analyzed}
+use Rattle.input_volume_controller.specs.declared.volume_control.VolumeControl.{VolumeControl}
 use Rattle.input_volume_controller.specs.declared.InputVolumeController.{InputVolumeController}
+use Rattle.input_volume_controller.specs.Control.{controlOf}
+use Rattle.input_volume_controller.specs.Control as ControlOf
 use Rattle.input_volume_controller.specs.ControlCalls.{initialize, switchCapture}
 use Rattle.input_volume_controller.specs.Controller.{Controller, viewOf, Good}
 use Rattle.input_volume_controller.specs.Reply.{Reply, done, analysisSays, Stepped}
@@ -58,6 +62,12 @@ pub record Does (self : InputVolumeController) (call : Call) (says : Reply) (r :
   pub good : Good r
   pub reply : says ≡ step (viewOf self) call .reply
   pub view : viewOf r ≡ step (viewOf self) call .state
+
+-- a call that leaves the predictor alone, made of the control alone: r is what it hands back, whatever predictor stands beside it
+pub record ControlDoes (self : VolumeControl) (call : Call) (says : Reply) (r : VolumeControl) : Type 0 where
+  pub good : ControlOf.Good r
+  pub count : r .channels .count ≡ self .channels .count
+  pub does : (p : Predictor) → step (record { control = controlOf self; predictor = p }) call ≡ record { reply = says; state = record { control = controlOf r; predictor = p } }
 
 -- what the private functions say of an accepted frame
 pub record Framed (s : Stepped) (r : Analyzed) : Type 0 where

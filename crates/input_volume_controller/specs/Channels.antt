@@ -61,7 +61,7 @@ pub record Becomes (said : List MonoInputVolumeController) (r : Channels) : Type
 
 -- a channel of a fresh controller
 abbrev pub freshChannel : Settings → MonoInputVolumeController
-freshChannel s = created (s .floor) (s .least) (s .«update_wait») (s .«speech_probability») (s .«speech_ratio»)
+freshChannel s = created s
 
 unfoldable pub called : ChannelCall → MonoInputVolumeController → MonoInputVolumeController
 unfolding handledCaptureOutputUsedChange handledClipping processed

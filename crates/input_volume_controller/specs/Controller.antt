@@ -13,6 +13,7 @@ use Rattle.numbers.specs.declared.refusal.Refusal.the-variants.{ChannelCount}
 use Rattle.numbers.specs.Natural.{withinOf}
 use Rattle.clipping_predictor.specs.declared.settings.ClippingPredictorMode.the-variants.{AdaptiveStepClippingPeakPrediction}
 use Rattle.clipping_predictor.specs.declared.settings.ClippingPredictorConfig.{ClippingPredictorConfig}
+use Rattle.clipping_predictor.specs.declared.ClippingPredictor.{ClippingPredictor}
 use Rattle.clipping_predictor.specs.declared.settings.Settings as Predictor
 use Rattle.clipping_predictor.specs.Settings.{configOf}
 use Rattle.clipping_predictor.specs.Predictor.{maxChannels, Predictor, emptyPredictor}
@@ -22,6 +23,7 @@ use Rattle.mono_input_volume_controller.specs.declared.config.Settings.{Setting
 use Rattle.mono_input_volume_controller.specs.declared.config.Checked.{Checked}
 use Rattle.mono_input_volume_controller.specs.declared.config.Checked.the-variants as Checked
 use Rattle.input_volume_controller.specs.declared.Applied.the-variants.{Nothing}
+use Rattle.input_volume_controller.specs.declared.volume_control.VolumeControl.{VolumeControl}
 use Rattle.input_volume_controller.specs.declared.InputVolumeController.{InputVolumeController}
 use Rattle.input_volume_controller.specs.declared.Created.{Created}
 use Rattle.mono_input_volume_controller.specs.Config.{defaults, settingsFrom, settingsOf}
@@ -33,6 +35,10 @@ use Rattle.input_volume_controller.specs.Control as ControlOf
 pub record Controller : Type 0 where
   pub control : Control
   pub predictor : Predictor
+
+-- its two parts as one
+abbrev pub together : VolumeControl → ClippingPredictor → InputVolumeController
+together control predictor = record { control = control; predictor = predictor }
 
 unfoldable pub viewOf : InputVolumeController → Controller
 viewOf c = record { control = controlOf (c .control); predictor = PredictorOf.viewOf (c .predictor) }

@@ -1,6 +1,6 @@
 -- Document 01, "All channels": a frame, by the source's `analyze_input_audio`; causes 8 and 9. Definitions only.
 use mathlib.Core.Bool.{Bool, true, false, _||_}
-use mathlib.Core.List.{List, map, foldl}
+use mathlib.Core.List.{List}
 use Prim.Native.Nat.{ℕ, max}
 use lib.Dec.{ltb}
 use lib.IntN.{ℤ}
@@ -12,12 +12,12 @@ use Rattle.numbers.specs.declared.refusal.Refusal.{Refusal}
 use Rattle.numbers.specs.declared.refusal.Refusal.the-variants.{InputVolume, FrameSize}
 use Rattle.numbers.specs.Natural.{withinOf}
 use Rattle.numbers.specs.Refusal.{numberOf}
-use Rattle.clipping_predictor_level_buffer.specs.declared.level.Level.{Level}
 use Rattle.clipping_predictor.specs.declared.modes.Asked.{Asked}
 use Rattle.clipping_predictor.specs.declared.modes.Estimated.{Estimated}
-use Rattle.clipping_predictor.specs.Tree.{leaf}
-use Rattle.clipping_predictor.specs.Estimate.{estimateTree, estimated}
-use Rattle.clipping_predictor.specs.Predictor.{Predictor, frameFits, enteredIf, emptied}
+use Rattle.clipping_predictor.specs.declared.modes.Question.{Question}
+use Rattle.clipping_predictor.specs.declared.modes.Question.the-variants as Question
+use Rattle.clipping_predictor.specs.Predictor.{frameFits, enteredIf, emptied}
+use Rattle.clipping_predictor.specs.AllRings.{predictedBy}
 use Rattle.input_volume_controller.specs.ClippedRatio.{clippedRatio}
 use Rattle.mono_input_volume_controller.specs.MonoState.{maxInputVolume}
 use Rattle.input_volume_controller.specs.Control.{Control}
@@ -29,12 +29,13 @@ use Rattle.input_volume_controller.specs.Reply.{mark, refusal, Stepped}
 abbrev pub askedOf : Control → Asked
 askedOf c = record { level = c .volume; step = c .settings .step; least = c .settings .floor; most = maxInputVolume }
 
--- "the largest predicted step"; "A frame is marked exactly if one of its channels' estimates is"
-abbrev pub joined : Estimated → Estimated → Estimated
-joined a b = record { drop = max (a .drop) (b .drop); near = a .near || b .near }
+-- what the rings are asked: within the wait nothing
+abbrev pub questionIf : Bool → Asked → Question
+questionIf true a = Question.Nothing
+questionIf false a = Question.Step a
 
-unfoldable pub predictedBy : Asked → Predictor → Estimated
-predictedBy a p = foldl joined (estimated (leaf 0)) (map (λ (records : List Level). estimated (estimateTree (p .settings) records a)) (p .rings))
+abbrev pub questionOf : Control → Question
+questionOf c = questionIf (ltb (c .since) (c .settings .«clipped_wait»)) (askedOf c)
 
 -- "ratio above threshold or a prediction lowers every channel, empties the rings and restarts the wait. The step is clipped_level_step, or the largest predicted step if larger."
 abbrev pub handleIf : Bool → ℕ → Controller → Controller

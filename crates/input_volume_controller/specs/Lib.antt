@@ -7,3 +7,4 @@ pub mod Reply
 pub mod Frame
 pub mod Recommendation
 pub mod Calls
+pub mod Plain

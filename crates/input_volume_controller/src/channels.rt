@@ -3,7 +3,7 @@ ghost use mathlib.Core.Path.{_≡_};
 ghost use Prim.Native.Nat.{_≤_};
 ghost use lib.ListN.{replicate};
 ghost use Rattle.clipping_predictor.specs.Predictor.{maxChannels};
-ghost use Rattle.mono_input_volume_controller.specs.MonoState.{maxWait};
+ghost use Rattle.mono_input_volume_controller.specs.Config.{Good as GoodSettings};
 ghost use Rattle.mono_input_volume_controller.specs.MonoState.{Good as GoodChannel, Becomes as BecomesChannel};
 ghost use Rattle.input_volume_controller.specs.Channels.{Good, Becomes, freshChannel, called, channelsOf, eachCalled, lowerOf, aggregateOf};
 use clipping_predictor::MAX_CHANNELS;
@@ -58,16 +58,10 @@ fn lower_of(a: Aggregate, volume: u8, channel: usize) -> Aggregate
 
 impl Channels {
     pub fn new(count: usize, s: Settings) -> Channels
-        requires { ⌜ (1 ≤ count) × (count ≤ maxChannels) × (1 ≤ s .«update_wait») × (s .«update_wait» ≤ maxWait) ⌝ }
+        requires { ⌜ (1 ≤ count) × (count ≤ maxChannels) × GoodSettings s ⌝ }
         ensures { λ r. ⌜ Becomes (replicate count (freshChannel s)) r ⌝ }
     {
-        let channel = MonoInputVolumeController::new(
-            s.floor,
-            s.least,
-            s.update_wait,
-            s.speech_probability,
-            s.speech_ratio,
-        );
+        let channel = MonoInputVolumeController::new(s);
         let items = [channel; MAX_CHANNELS];
         Channels { items, count }
     }

@@ -1,44 +1,37 @@
 // Recommends the input volume of a capture device. Ports input_volume_controller.rs: `&mut self` is a controller by value that is handed back, and `AudioBuffer` one lent slice,
 // channels one after another.
 ghost use mathlib.Core.Path.{_≡_};
-ghost use mathlib.Core.Bool.{true};
 ghost use mathlib.Core.List.{[]};
-ghost use Prim.Native.Nat.{_≤_, _<_};
+ghost use Prim.Native.Nat.{_≤_};
 ghost use lib.IntN.{pos};
 ghost use lib.ListN.{getD};
 ghost use Rattle.clipping_predictor_level_buffer.specs.Ring.{storedAt};
-ghost use Rattle.clipping_predictor.specs.Predictor.{maxChannels, frameFits};
-ghost use Rattle.clipping_predictor.specs.Predictor.{Good as GoodPredictor, viewOf as predictorOf};
+ghost use Rattle.clipping_predictor.specs.Predictor.{maxChannels};
 ghost use Rattle.mono_input_volume_controller.specs.Config.{Good as GoodSettings};
 ghost use Rattle.input_volume_controller.specs.Controller.{viewOf, Good, Becomes, predictorConfig, fresh, RefusedWith, CreatedOf};
 ghost use Rattle.input_volume_controller.specs.Reply.{done, recommendationSays};
-ghost use Rattle.input_volume_controller.specs.Frame.{askedOf, joined, predictedBy, handled, ifUsed, withVolumeApplied};
-ghost use Rattle.input_volume_controller.specs.Calls.{recommendation, initialise, captureSwitch, Does, Framed, AnalyzedOf};
-use crate::clipped_ratio::compute_clipped_ratio;
+ghost use Rattle.input_volume_controller.specs.Calls.{recommendation, initialise, captureSwitch, Does, AnalyzedOf};
 use crate::volume_control::VolumeControl;
 use clipping_predictor::ClippingPredictor;
 use clipping_predictor::MAX_CHANNELS;
 use clipping_predictor::create_clipping_predictor;
 use clipping_predictor::frame_fits;
-use clipping_predictor::modes::Asked;
-use clipping_predictor::modes::Estimated;
-use clipping_predictor::modes::estimate_for;
 use clipping_predictor::settings::ClippingPredictorConfig;
 use clipping_predictor::settings::ClippingPredictorMode;
 use clipping_predictor_level_buffer::Stored;
 use mono_input_volume_controller::config::Checked;
 use mono_input_volume_controller::config::Config;
 use mono_input_volume_controller::config::Settings;
-use mono_input_volume_controller::mono::MAX_INPUT_VOLUME;
 use mono_input_volume_controller::speech_level::SpeechLevel;
 use numbers::natural::Natural;
 use numbers::refusal::Outcome;
 use numbers::refusal::Refusal;
-use numbers::truth::either;
 
 mod channels;
 mod clipped_ratio;
-mod volume_control;
+mod frame;
+pub mod plain;
+pub mod volume_control;
 
 // The volume that a frame applied, as long as no recommendation has answered it.
 pub enum Applied {
@@ -116,32 +109,6 @@ fn refused(cause: Refusal) -> Created
     }
 }
 
-// The larger drop of two estimates, and the mark of either.
-fn joined(a: Estimated, b: Estimated) -> Estimated
-    ensures { λ r. ⌜ r ≡ joined a b ⌝ }
-{
-    Estimated {
-        drop: numbers::byte::larger(a.drop, b.drop),
-        near: either(a.near, b.near),
-    }
-}
-
-// The largest drop that the channels' rings lead to, and whether an estimate is near.
-fn predicted(p: ClippingPredictor, a: Asked) -> Estimated
-    requires { ⌜ GoodPredictor p ⌝ }
-    ensures { λ r. ⌜ r ≡ predictedBy a (predictorOf p) ⌝ }
-{
-    let mut e = Estimated {
-        drop: 0,
-        near: false,
-    };
-    for c in 0..p.channels {
-        let ring = p.rings[c];
-        e = joined(e, estimate_for(p.settings, ring, a));
-    }
-    e
-}
-
 impl InputVolumeController {
     // Tests causes 1 to 6, in that order.
     pub fn new(num_capture_channels: i32, config: Config) -> Created
@@ -185,78 +152,6 @@ impl InputVolumeController {
         c
     }
 
-    // The wait is over: clipping that is seen or predicted lowers every channel and empties the rings.
-    fn tested(self, clipped: bool) -> Analyzed
-        requires { ⌜ Good self ⌝ }
-        ensures { λ r. ⌜ Framed (handled clipped (predictedBy (askedOf (viewOf self .control)) (viewOf self .predictor)) (viewOf self)) r ⌝ }
-    {
-        let control = self.control;
-        let predictor = self.predictor;
-        let asked = Asked {
-            level: control.volume,
-            step: control.settings.step,
-            least: control.settings.floor,
-            most: MAX_INPUT_VOLUME,
-        };
-        let e = predicted(predictor, asked);
-        if !either(clipped, 0 < e.drop) {
-            return Analyzed {
-                answer: Analysis::Accepted(e.near),
-                controller: self,
-            };
-        }
-        let step = numbers::byte::larger(control.settings.step, e.drop);
-        Analyzed {
-            answer: Analysis::Accepted(e.near),
-            controller: InputVolumeController {
-                control: control.lower_channels(step),
-                predictor: predictor.reset(),
-            },
-        }
-    }
-
-    // With capture on a frame enters the rings; within the wait it then only counts.
-    fn heard(self, samples: usize, frame: &[f32]) -> Analyzed
-        requires { ⌜ Good self × (frameFits (self .control .channels .count) samples (now frame) ≡ true) ⌝ }
-        ensures { λ r. ⌜ Framed (ifUsed true samples (now (frame .entry)) (viewOf self)) r ⌝ }
-    {
-        let control = self.control;
-        let before = self.predictor;
-        let entered = before.analyze(samples, frame);
-        let predictor = entered.predictor;
-        if control.since < control.settings.clipped_wait {
-            return Analyzed {
-                answer: Analysis::Accepted(false),
-                controller: InputVolumeController {
-                    control: control.one_frame_more(),
-                    predictor,
-                },
-            };
-        }
-        let ratio = compute_clipped_ratio(control.channels.count, samples, frame);
-        let threshold = control.settings.clipped_ratio;
-        let c = InputVolumeController { control, predictor };
-        c.tested(ratio > threshold)
-    }
-
-    // With capture off a frame only sets the volume.
-    fn accepted(self, volume: u8, samples: usize, frame: &[f32]) -> Analyzed
-        requires { ⌜ Good self × (frameFits (self .control .channels .count) samples (now frame) ≡ true) ⌝ }
-        ensures { λ r. ⌜ Framed (ifUsed (self .control .used) samples (now (frame .entry)) (withVolumeApplied volume (viewOf self))) r ⌝ }
-    {
-        let control = self.control;
-        let used = control.used;
-        let mut c = self;
-        c.control = control.set_applied_input_volume(volume);
-        if used {
-            return c.heard(samples, frame);
-        }
-        Analyzed {
-            answer: Analysis::Accepted(false),
-            controller: c,
-        }
-    }
-
     // A frame of all channels, one after another, each of `samples_per_channel` samples. Tests causes 8 and 9, in that order.
     pub fn analyze_input_audio(
         self,
@@ -267,8 +162,8 @@ impl InputVolumeController {
         requires { ⌜ Good self ⌝ }
         ensures { λ r. ⌜ AnalyzedOf self «applied_input_volume» «samples_per_channel» (now (frame .entry)) r ⌝ }
     {
-        let applied = numbers::natural::within(0, 255, applied_input_volume);
-        let Natural::Number(volume) = applied else {
+        let given = numbers::natural::within(0, 255, applied_input_volume);
+        let Natural::Number(volume) = given else {
             return Analyzed {
                 answer: Analysis::Refused(Refusal::InputVolume),
                 controller: self,
@@ -284,10 +179,12 @@ impl InputVolumeController {
                 controller: self,
             };
         }
-        self.accepted(volume as u8, samples_per_channel, frame)
+        let control = self.control;
+        let predictor = self.predictor;
+        let applied = control.set_applied_input_volume(volume as u8);
+        frame::accepted(applied, predictor, samples_per_channel, frame)
     }
 
-    // A recommendation answers the pending volume; with capture off it repeats that, and the volume stays pending.
     pub fn recommend_input_volume(
         self,
         speech_probability: f32,
@@ -296,32 +193,13 @@ impl InputVolumeController {
         requires { ⌜ Good self ⌝ }
         ensures { λ r. ⌜ Does self (recommendation «speech_probability» «speech_level») (recommendationSays (r .answer)) (r .controller) ⌝ }
     {
-        let control = self.control;
-        let applied = control.applied;
-        let Applied::Volume(volume) = applied else {
-            return Recommended {
-                answer: Recommendation::Nothing,
-                controller: self,
-            };
-        };
-        let predictor = self.predictor;
-        if !control.used {
-            return Recommended {
-                answer: Recommendation::Volume(volume as i32),
-                controller: InputVolumeController {
-                    control: control.aggregate_channel_levels(),
-                    predictor,
-                },
-            };
-        }
-        let processed = control.process_channels(speech_probability, speech_level);
-        Recommended {
-            answer: Recommendation::Volume(processed.volume as i32),
-            controller: InputVolumeController {
-                control: processed.with_applied(Applied::Nothing),
-                predictor,
-            },
-        }
+        let before = self.control;
+        let recommended = before.recommend_input_volume(speech_probability, speech_level);
+        let answer = recommended.answer;
+        let control = recommended.control;
+        let mut controller = self;
+        controller.control = control;
+        Recommended { answer, controller }
     }
 
     // The controller's volume.

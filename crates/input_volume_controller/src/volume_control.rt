@@ -2,12 +2,15 @@
 ghost use mathlib.Core.Path.{_≡_};
 ghost use Prim.Native.Nat.{_≤_, _<_};
 ghost use Rattle.clipping_predictor.specs.Predictor.{maxChannels};
-ghost use Rattle.input_volume_controller.specs.declared.Applied.the-variants.{Volume};
+ghost use Rattle.input_volume_controller.specs.declared.Applied.the-variants.{Volume, Nothing};
 ghost use Rattle.mono_input_volume_controller.specs.Config.{Good as GoodSettings};
 ghost use Rattle.input_volume_controller.specs.Controller.{freshControl};
 ghost use Rattle.input_volume_controller.specs.Control.{withApplied, controlOf, Good, Becomes, eachChannel};
-ghost use Rattle.input_volume_controller.specs.ControlCalls.{raisedFor, aggregated, withAppliedInputVolume, initialize, switchCapture, lowerChannels, oneFrameMore, processChannels};
+ghost use Rattle.input_volume_controller.specs.ControlCalls.{raisedFor, aggregated, withAppliedInputVolume, lowerChannels, oneFrameMore, processChannels};
+ghost use Rattle.input_volume_controller.specs.Reply.{done, recommendationSays};
+ghost use Rattle.input_volume_controller.specs.Calls.{recommendation, initialise, captureSwitch, ControlDoes};
 use crate::Applied;
+use crate::Recommendation;
 use crate::channels::ChannelCall;
 use crate::channels::Channels;
 use mono_input_volume_controller::config::Settings;
@@ -29,6 +32,12 @@ pub struct VolumeControl {
     pub volume: u8,
     // channel_controlling_gain
     pub controlling: usize,
+}
+
+// What a recommendation answers.
+pub struct ControlRecommended {
+    pub answer: Recommendation,
+    pub control: VolumeControl,
 }
 
 // Raised to the minimum, unless the volume that is applied is 0.
@@ -107,19 +116,41 @@ impl VolumeControl {
         c
     }
 
+    // Every channel gets a call; then the volume is taken while one volume is pending, and another is left so. The struct is made once: this is done for every frame.
+    fn called(self, call: ChannelCall, pending: Applied, left: Applied) -> VolumeControl
+        requires { ⌜ Good self ⌝ }
+        ensures { λ r. ⌜ Becomes (withApplied left (aggregated (withApplied pending (eachChannel call (controlOf self))))) r ⌝ }
+    {
+        let settings = self.settings;
+        let before = self.channels;
+        let channels = before.each(call);
+        let lowest = channels.aggregate();
+        VolumeControl {
+            settings,
+            channels,
+            since: self.since,
+            used: self.used,
+            applied: left,
+            volume: raised_for(pending, self.settings.least, lowest.volume),
+            controlling: lowest.channel,
+        }
+    }
+
     pub fn set_applied_input_volume(self, input_volume: u8) -> VolumeControl
         requires { ⌜ Good self ⌝ }
         ensures { λ r. ⌜ Becomes (withAppliedInputVolume «input_volume» (controlOf self)) r ⌝ }
     {
-        let c = self.each(ChannelCall::StreamAnalogLevel(input_volume));
-        let d = c.with_applied(Applied::Volume(input_volume));
-        d.aggregate_channel_levels()
+        self.called(
+            ChannelCall::StreamAnalogLevel(input_volume),
+            Applied::Volume(input_volume),
+            Applied::Volume(input_volume),
+        )
     }
 
     // The volume is taken with the applied one still pending.
     pub fn initialize(self) -> VolumeControl
         requires { ⌜ Good self ⌝ }
-        ensures { λ r. ⌜ Becomes (initialize (controlOf self)) r ⌝ }
+        ensures { λ r. ⌜ ControlDoes self initialise done r ⌝ }
     {
         let mut c = self.each(ChannelCall::Initialize);
         c.used = true;
@@ -129,7 +160,7 @@ impl VolumeControl {
 
     pub fn handle_capture_output_used_change(self, capture_output_used: bool) -> VolumeControl
         requires { ⌜ Good self ⌝ }
-        ensures { λ r. ⌜ Becomes (switchCapture «capture_output_used» (controlOf self)) r ⌝ }
+        ensures { λ r. ⌜ ControlDoes self (captureSwitch «capture_output_used») done r ⌝ }
     {
         let mut c = self.each(ChannelCall::CaptureOutputUsed(capture_output_used));
         c.used = capture_output_used;
@@ -156,21 +187,54 @@ impl VolumeControl {
         c
     }
 
-    // The speech error acts on every channel.
+    // The speech error acts on every channel, and the applied volume is answered.
     pub fn process_channels(
         self,
         speech_probability: f32,
         speech_level: SpeechLevel,
     ) -> VolumeControl
         requires { ⌜ Good self ⌝ }
-        ensures { λ r. ⌜ Becomes (processChannels «speech_probability» «speech_level» (controlOf self)) r ⌝ }
+        ensures { λ r. ⌜ Becomes (withApplied Nothing (processChannels «speech_probability» «speech_level» (controlOf self))) r ⌝ }
     {
         let error = get_speech_level_rms_error_db(
             speech_level,
             self.settings.min_target,
             self.settings.max_target,
         );
-        let c = self.each(ChannelCall::Process(error, speech_probability));
-        c.aggregate_channel_levels()
+        let applied = self.applied;
+        self.called(
+            ChannelCall::Process(error, speech_probability),
+            applied,
+            Applied::Nothing,
+        )
+    }
+
+    // A recommendation answers the pending volume; with capture off it repeats that, and the volume stays pending.
+    pub fn recommend_input_volume(
+        self,
+        speech_probability: f32,
+        speech_level: SpeechLevel,
+    ) -> ControlRecommended
+        requires { ⌜ Good self ⌝ }
+        ensures { λ r. ⌜ ControlDoes self (recommendation «speech_probability» «speech_level») (recommendationSays (r .answer)) (r .control) ⌝ }
+    {
+        let applied = self.applied;
+        let Applied::Volume(volume) = applied else {
+            return ControlRecommended {
+                answer: Recommendation::Nothing,
+                control: self,
+            };
+        };
+        if !self.used {
+            return ControlRecommended {
+                answer: Recommendation::Volume(volume as i32),
+                control: self.aggregate_channel_levels(),
+            };
+        }
+        let processed = self.process_channels(speech_probability, speech_level);
+        ControlRecommended {
+            answer: Recommendation::Volume(processed.volume as i32),
+            control: processed,
+        }
     }
 }

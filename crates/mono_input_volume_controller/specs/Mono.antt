@@ -3,29 +3,29 @@
 use mathlib.Core.Bool.{Bool, true, false, _||_}
 use Prim.Native.Nat.{ℕ, _+_, _-_, min, max}
 use lib.Dec.{leb, ltb, eqb}
-use lib.Ieee.{Float}
+use Rattle.mono_input_volume_controller.specs.declared.config.Settings.{Settings}
 use Rattle.mono_input_volume_controller.specs.declared.mono.MonoInputVolumeController.{MonoInputVolumeController}
 use Rattle.mono_input_volume_controller.specs.MonoState.{maxInputVolume, volumes, flags, counts}
 
 -- ---- `new`, `initialize`, `handle_capture_output_used_change`, `set_stream_analog_level`
 
 -- a fresh channel: volumes 0 below the highest ceiling, a check pending, at its startup
-abbrev pub created : ℕ → ℕ → ℕ → Float → Float → MonoInputVolumeController
-created minInputVolumeAfterClipping minInputVolume waitFrames speechProbabilityThreshold speechRatioThreshold = record {
-  least = minInputVolume;
-  floor = minInputVolumeAfterClipping;
+abbrev pub created : Settings → MonoInputVolumeController
+created s = record {
+  least = s .least;
+  floor = s .floor;
   ceiling = maxInputVolume;
   last = 0;
   used = true;
   pending = true;
   startup = true;
   volume = 0;
-  wait = waitFrames;
+  wait = s .«update_wait»;
   frames = 0;
   speech = 0;
   first = true;
-  probability = speechProbabilityThreshold;
-  ratio = speechRatioThreshold;
+  probability = s .«speech_probability»;
+  ratio = s .«speech_ratio»;
 }
 
 -- "Initialise keeps startup, last and recommended volume"; the ceiling is the highest again

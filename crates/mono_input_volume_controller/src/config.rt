@@ -19,6 +19,7 @@ pub struct Config {
 }
 
 // The same, in order: volumes and waits are unsigned, and the update wait is at least 1.
+#[repr(C)]
 pub struct Settings {
     pub least: u8,
     pub floor: u8,

@@ -1,9 +1,11 @@
 // One channel's controller, by value: each call hands the new state back. Ports `MonoInputVolumeController`.
 ghost use mathlib.Core.Path.{_≡_};
 ghost use Prim.Native.Nat.{_+_, _≤_};
+ghost use Rattle.mono_input_volume_controller.specs.Config.{Good as GoodSettings};
 ghost use Rattle.mono_input_volume_controller.specs.MonoState.{maxWait, Good, Becomes};
 ghost use Rattle.mono_input_volume_controller.specs.Mono.{created, initialized, checkAsked, handledCaptureOutputUsedChange, withStreamAnalogLevel, isUsers, takenFromUser, withInputVolume, handledClipping};
 ghost use Rattle.mono_input_volume_controller.specs.MonoProcess.{staysMuted, checkedVolumeAndReset, settled, heldError, updatedInputVolume, corrected, speechFrames, mayAct, waited, counted, processed};
+use crate::config::Settings;
 use crate::speech_level::RmsError;
 
 // The highest input volume.
@@ -96,32 +98,26 @@ fn hold_error(error: i32) -> i32
 }
 
 impl MonoInputVolumeController {
-    // The settings are in range: the controller of all channels tests them.
-    pub fn new(
-        min_input_volume_after_clipping: u8,
-        min_input_volume: u8,
-        update_input_volume_wait_frames: u32,
-        speech_probability_threshold: f32,
-        speech_ratio_threshold: f32,
-    ) -> MonoInputVolumeController
-        requires { ⌜ (1 ≤ «update_input_volume_wait_frames») × («update_input_volume_wait_frames» ≤ maxWait) ⌝ }
-        ensures { λ r. ⌜ Becomes (created «min_input_volume_after_clipping» «min_input_volume» «update_input_volume_wait_frames» «speech_probability_threshold» «speech_ratio_threshold») r ⌝ }
+    // Takes the settings that the controller of all channels has tested.
+    pub fn new(s: Settings) -> MonoInputVolumeController
+        requires { ⌜ GoodSettings s ⌝ }
+        ensures { λ r. ⌜ Becomes (created s) r ⌝ }
     {
         MonoInputVolumeController {
-            least: min_input_volume,
-            floor: min_input_volume_after_clipping,
+            least: s.least,
+            floor: s.floor,
             ceiling: MAX_INPUT_VOLUME,
             last: 0,
             used: true,
             pending: true,
             startup: true,
             volume: 0,
-            wait: update_input_volume_wait_frames,
+            wait: s.update_wait,
             frames: 0,
             speech: 0,
             first: true,
-            probability: speech_probability_threshold,
-            ratio: speech_ratio_threshold,
+            probability: s.speech_probability,
+            ratio: s.speech_ratio,
         }
     }
 

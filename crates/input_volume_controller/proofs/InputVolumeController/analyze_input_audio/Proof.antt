@@ -13,10 +13,12 @@ use Rattle.numbers.proofs.Ranges.{told}
 use Rattle.clipping_predictor.specs.Predictor.{frameFits}
 use Rattle.mono_input_volume_controller.specs.MonoState.{maxInputVolume}
 use Rattle.input_volume_controller.specs.Control.{controlOf}
-use Rattle.input_volume_controller.specs.Controller.{viewOf}
+use Rattle.input_volume_controller.specs.ControlCalls.{aggregated, withAppliedInputVolume}
+use Rattle.input_volume_controller.specs.Controller.{together, viewOf, Becomes}
 use Rattle.input_volume_controller.specs.Reply.{Stepped}
-use Rattle.input_volume_controller.specs.Frame.{unlessRefused, analyzeInputAudio}
-use Rattle.input_volume_controller.proofs.Whole.{control-count}
+use Rattle.input_volume_controller.specs.Frame.{ifUsed, withVolumeApplied, unlessRefused, analyzeInputAudio}
+use Rattle.input_volume_controller.proofs.Volumes.{applied-count}
+use Rattle.input_volume_controller.proofs.Whole.{control-count, with-control, framed-same}
 use borrow.Author.Needs.{needs}
 use Rattle.input_volume_controller.proofs.InputVolumeController.analyze_input_audio.Statement.{statement}
 use Rattle.input_volume_controller.proofs.InputVolumeController.analyze_input_audio.Tie as tie
@@ -30,14 +32,14 @@ of-parts s a b p q =
     (sym (ap (withinOf 0 maxInputVolume) (again (s .args .applied-input-volume) (s .fits .applied-input-volume .sfits))) ∙ p)
     (ap (λ (n : ℕ). frameFits n (s .args .samples-per-channel) (now (s .args .frame))) (control-count (s .args .self .control)) ∙ q)
 
-volume-is : (c : tie.After-applied) → withinOf 0 maxInputVolume (read (c .before .before .before .before .args .applied-input-volume)) ≡ Number (c .applied .given .0 .0)
-volume-is c = sym (c .before .before .within .ensures) ∙ c .applied .given .1
+volume-is : (c : tie.After-given) → withinOf 0 maxInputVolume (read (c .before .before .before .before .args .applied-input-volume)) ≡ Number (c .given .given .0 .0)
+volume-is c = sym (c .before .before .within .ensures) ∙ c .given .given .1
 
 within-requires : tie.Need-within-requires
 within-requires c κs = search needs
 
-enum-known-applied : tie.Need-enum-known-applied
-enum-known-applied c = search needs
+enum-known-given : tie.Need-enum-known-given
+enum-known-given c = search needs
 
 enum-told : tie.Need-enum-told
 enum-told c = search needs
@@ -62,23 +64,35 @@ returns-2 c =
     let e = of-parts s _ _ (volume-is v) (sym (c .before .frame-fits .ensures) ∙ not-true _ (c .if1 .taken)) in
     record { does = record { good = s .pre; reply = sym (ap (λ (x : Stepped). x .reply) e); view = sym (ap (λ (x : Stepped). x .state) e) }; same = λ cause q. refl }
 
-cast-accepted : tie.Need-cast-accepted
-cast-accepted c = let t = told 0 maxInputVolume _ _ (volume-is (c .before .before .before .before)) in omega (arith, t .most)
+cast-set-applied-input-volume : tie.Need-cast-set-applied-input-volume
+cast-set-applied-input-volume c = let t = told 0 maxInputVolume _ _ (volume-is (c .before .before .before .before .before .before)) in omega (arith, t .most)
+
+set-applied-input-volume-requires : tie.Need-set-applied-input-volume-requires
+set-applied-input-volume-requires c κs = search needs
+
+-- the controller with the volume applied
+applied-whole : (c : tie.After-set-applied-input-volume) → let s = c .before .before .before .before .before .before .before .before .before .before .before in
+    Becomes (withVolumeApplied (c .before .before .before .before .before .before .before .given .given .0 .0) (viewOf (s .args .self))) (together (c .set-applied-input-volume .result) (s .args .self .predictor))
+unfolding viewOf
+applied-whole c = let s = c .before .before .before .before .before .before .before .before .before .before .before in with-control (s .args .self) _ _ (s .pre) (c .set-applied-input-volume .ensures) (applied-count _ _)
 
 accepted-requires : tie.Need-accepted-requires
 accepted-requires c κs =
-    let s = c .before .before .before .before .before .before .before .before in
-    (s .pre, sym (c .before .frame-fits .ensures) ∙ not-false _ (c .if1 .left))
+    let f = c .before .before .before in
+    let s = f .before .before .before .before .before .before .before .before in
+    let b = applied-whole c .good in
+    (b, ap (λ (n : ℕ). frameFits n (s .args .samples-per-channel) (now (s .args .frame))) (sym (b .counts) ∙ s .pre .counts) ∙ sym (f .before .frame-fits .ensures) ∙ not-false _ (f .if1 .left))
 
 returns-3 : tie.Need-returns-3
-unfolding viewOf controlOf
+unfolding viewOf controlOf withAppliedInputVolume aggregated
 returns-3 c =
-    let i = c .before in
+    let a = c .before in
+    let i = a .before .before .before in
     let v = i .before .before .before .before in
     let s = v .before .before .before .before in
     let e = of-parts s _ _ (volume-is v) (sym (i .before .frame-fits .ensures) ∙ not-false _ (i .if1 .left)) in
-    let f = c .accepted .ensures in
+    let f = framed-same (λ j. ifUsed (applied-whole a .is j .control .used) (s .args .samples-per-channel) (now (s .args .frame)) (applied-whole a .is j)) (c .accepted .ensures) in
     record { does = record { good = f .good; reply = f .reply ∙ sym (ap (λ (x : Stepped). x .reply) e); view = f .view ∙ sym (ap (λ (x : Stepped). x .state) e) }; same = λ cause q. absurd (f .accepted cause q) }
 
 pub analyze-input-audio-spec : {M : Type 1} → statement M
-analyze-input-audio-spec = tie.close (tie.spec within-requires enum-known-applied enum-told returns cast-frame-fits frame-fits-requires returns-2 cast-accepted accepted-requires returns-3)
+analyze-input-audio-spec = tie.close (tie.spec within-requires enum-known-given enum-told returns cast-frame-fits frame-fits-requires returns-2 cast-set-applied-input-volume set-applied-input-volume-requires accepted-requires returns-3)

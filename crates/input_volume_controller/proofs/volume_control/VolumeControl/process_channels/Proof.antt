@@ -2,11 +2,12 @@
 use mathlib.Core.Path.{_≡_, ap, _∙_}
 use Rattle.numbers.proofs.Signs.{read, again}
 use Rattle.mono_input_volume_controller.specs.declared.speech_level.RmsError.{RmsError}
+use Rattle.input_volume_controller.specs.declared.Applied.the-variants.{Nothing}
 use Rattle.input_volume_controller.specs.declared.channels.ChannelCall.the-variants.{Process}
 use Rattle.mono_input_volume_controller.specs.SpeechLevel.{rmsErrorOf}
-use Rattle.input_volume_controller.specs.Control.{controlOf, eachChannel}
+use Rattle.input_volume_controller.specs.Control.{controlOf, eachChannel, withApplied}
 use Rattle.input_volume_controller.specs.ControlCalls.{processChannels, aggregated}
-use Rattle.input_volume_controller.proofs.Volumes.{then, target-small}
+use Rattle.input_volume_controller.proofs.Volumes.{target-small}
 use borrow.Author.Needs.{needs}
 use Rattle.input_volume_controller.proofs.volume_control.VolumeControl.process_channels.Statement.{statement}
 use Rattle.input_volume_controller.proofs.volume_control.VolumeControl.process_channels.Tie as tie
@@ -21,19 +22,17 @@ high c = let t = c .pre .settings .targets in again _ (target-small _ (t .max-lo
 get-speech-level-rms-error-db-requires : tie.Need-get-speech-level-rms-error-db-requires
 get-speech-level-rms-error-db-requires c κs = let s = c .before .before in rw (low s, high s) (s .pre .settings .targets)
 
-each-requires : tie.Need-each-requires
-each-requires c κs = search needs
-
-aggregate-channel-levels-requires : tie.Need-aggregate-channel-levels-requires
-aggregate-channel-levels-requires c κs = search needs
+called-requires : tie.Need-called-requires
+called-requires c κs = search needs
 
 returns : tie.Need-returns
-unfolding processChannels controlOf
+unfolding processChannels aggregated controlOf
 returns c =
-    let s = c .before .before .before .before .before in
-    let e = c .before .each .ensures in
-    let error = c .before .before .get-speech-level-rms-error-db .ensures ∙ (λ i. rmsErrorOf (s .args .speech-level) (low s i) (high s i)) in
-    then aggregated (record { good = e .good; is = e .is ∙ ap (λ (x : RmsError). eachChannel (Process x (s .args .speech-probability)) (controlOf (s .args .self))) error }) (c .aggregate-channel-levels .ensures)
+    let g = c .before in
+    let s = g .before .before .before in
+    let e = c .called .ensures in
+    let error = g .get-speech-level-rms-error-db .ensures ∙ (λ i. rmsErrorOf (s .args .speech-level) (low s i) (high s i)) in
+    record { good = e .good; is = e .is ∙ ap (λ (x : RmsError). withApplied Nothing (aggregated (eachChannel (Process x (s .args .speech-probability)) (controlOf (s .args .self))))) error }
 
 pub process-channels-spec : {M : Type 1} → statement M
-process-channels-spec = tie.close (tie.spec get-speech-level-rms-error-db-requires each-requires aggregate-channel-levels-requires returns)
+process-channels-spec = tie.close (tie.spec get-speech-level-rms-error-db-requires called-requires returns)

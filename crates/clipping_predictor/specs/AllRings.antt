@@ -1,0 +1,50 @@
+-- Document 01, "All channels": the estimates of all rings of a predictor, joined; and what a frame that enters the rings leads to. Definitions only.
+use mathlib.Core.Path.{_≡_}
+use mathlib.Core.Bool.{Bool, true, false, _||_}
+use mathlib.Core.List.{List, map, foldl}
+use Prim.Native.Nat.{ℕ, max}
+use lib.Ieee.{Float}
+use Rattle.clipping_predictor_level_buffer.specs.declared.level.Level.{Level}
+use Rattle.clipping_predictor.specs.declared.settings.Settings.{Settings}
+use Rattle.clipping_predictor.specs.declared.modes.Asked.{Asked}
+use Rattle.clipping_predictor.specs.declared.modes.Estimated.{Estimated}
+use Rattle.clipping_predictor.specs.declared.modes.Question.{Question}
+use Rattle.clipping_predictor.specs.declared.modes.Question.the-variants.{Nothing, Step}
+use Rattle.clipping_predictor.specs.declared.ClippingPredictor.{ClippingPredictor}
+use Rattle.clipping_predictor.specs.declared.Heard.{Heard}
+use Rattle.clipping_predictor.specs.Tree.{leaf}
+use Rattle.clipping_predictor.specs.Estimate.{estimateTree, estimated}
+use Rattle.clipping_predictor.specs.Predictor.{Predictor, viewOf, frameFits, Entered, WithFrame}
+
+abbrev pub noEstimate : Estimated
+noEstimate = estimated (leaf 0)
+
+-- "the largest predicted step"; "A frame is marked exactly if one of its channels' estimates is"
+abbrev pub joined : Estimated → Estimated → Estimated
+joined a b = record { drop = max (a .drop) (b .drop); near = a .near || b .near }
+
+unfoldable pub predictedBy : Asked → Predictor → Estimated
+predictedBy a p = foldl joined noEstimate (map (λ (records : List Level). estimated (estimateTree (p .settings) records a)) (p .rings))
+
+-- what one ring answers, and what all of them do
+abbrev pub estimatedFor : Question → Settings → List Level → Estimated
+estimatedFor Nothing s records = noEstimate
+estimatedFor (Step a) s records = estimated (estimateTree s records a)
+
+abbrev pub predictedFor : Question → Predictor → Estimated
+predictedFor Nothing p = noEstimate
+predictedFor (Step a) p = predictedBy a p
+
+-- a frame that does not fit is not asked about
+abbrev pub predictedIf : Bool → Question → Predictor → Estimated
+predictedIf true question p = predictedFor question p
+predictedIf false question p = noEstimate
+
+-- what the loop over the channels says of a predictor that is on
+pub record EnteredOf (p : ClippingPredictor) (samples : ℕ) (frame : List Float) (question : Question) (r : Heard) : Type 0 where
+  pub entered : Entered p samples frame (r .predictor)
+  pub answer : r .estimated ≡ predictedFor question (viewOf (r .predictor))
+
+pub record HeardOf (p : ClippingPredictor) (samples : ℕ) (frame : List Float) (question : Question) (r : Heard) : Type 0 where
+  pub entered : WithFrame p samples frame (r .predictor)
+  pub answer : r .estimated ≡ predictedIf (frameFits (p .channels) samples frame) question (viewOf (r .predictor))

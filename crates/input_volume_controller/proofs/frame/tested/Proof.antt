@@ -1,0 +1,45 @@
+-- `frame::tested` meets its contract. Assumes nothing.
+use mathlib.Core.Path.{refl, sym, ap, _∙_}
+use Prim.Native.Nat.{ℕ}
+use borrow.Author.Tests.{not-true, not-false}
+use Rattle.clipping_predictor.specs.Predictor as PredictorOf
+use Rattle.input_volume_controller.specs.Control.{controlOf}
+use Rattle.input_volume_controller.specs.ControlCalls.{lowerChannels}
+use Rattle.input_volume_controller.specs.Controller.{together, viewOf}
+use Rattle.input_volume_controller.proofs.Volumes.{lower-count}
+use Rattle.input_volume_controller.proofs.Whole.{whole, emptied-count, framed, not-handled, is-handled}
+use borrow.Author.Needs.{needs}
+use Rattle.input_volume_controller.proofs.frame.tested.Statement.{statement}
+use Rattle.input_volume_controller.proofs.frame.tested.Tie as tie
+
+either-requires : tie.Need-either-requires
+either-requires c κs = search needs
+
+returns : tie.Need-returns
+returns c =
+    let e = c .before in
+    let s = e .before .before in
+    framed _ _ _ _ (not-handled (s .args .clipped) (s .args .e) (viewOf (together (s .args .control) (s .args .predictor))) (sym (e .either .ensures) ∙ not-true _ (c .if1 .taken))) (record { good = s .pre; is = refl })
+
+larger-requires : tie.Need-larger-requires
+larger-requires c κs = search needs
+
+lower-channels-requires : tie.Need-lower-channels-requires
+lower-channels-requires c κs = search needs
+
+reset-requires : tie.Need-reset-requires
+reset-requires c κs = search needs
+
+returns-2 : tie.Need-returns-2
+unfolding viewOf controlOf
+returns-2 c =
+    let i = c .before .before .before in
+    let e = i .before in
+    let s = e .before .before in
+    let l = c .before .lower-channels .ensures in
+    framed _ _ _ _ (is-handled (s .args .clipped) (s .args .e) (viewOf (together (s .args .control) (s .args .predictor))) (sym (e .either .ensures) ∙ not-false _ (i .if1 .left)))
+    (whole (together (s .args .control) (s .args .predictor)) _ _ _ _ (s .pre) (record { good = l .good; is = l .is ∙ ap (λ (n : ℕ). lowerChannels n (controlOf (s .args .control))) (c .before .before .larger .ensures) }) (c .reset .ensures .good) (c .reset .ensures .view)
+    (record { channels = lower-count (controlOf (s .args .control)) _; rings = emptied-count (PredictorOf.viewOf (s .args .predictor)) }))
+
+pub tested-spec : {M : Type 1} → statement M
+tested-spec = tie.close (tie.spec either-requires returns larger-requires lower-channels-requires reset-requires returns-2)

@@ -1,0 +1,112 @@
+// What an accepted frame does, once its volume is applied. The two parts of the controller are handed on apart: the rings, which are most of it, are then copied only where they
+// change and where the answer is made.
+ghost use mathlib.Core.Path.{_≡_};
+ghost use mathlib.Core.Bool.{true};
+ghost use lib.Dec.{ltb};
+ghost use lib.Ieee.{lt};
+ghost use Rattle.clipping_predictor.specs.Predictor.{frameFits};
+ghost use Rattle.clipping_predictor.specs.Predictor.{viewOf as predictorOf};
+ghost use Rattle.clipping_predictor.specs.AllRings.{predictedFor};
+ghost use Rattle.input_volume_controller.specs.ClippedRatio.{clippedRatio};
+ghost use Rattle.input_volume_controller.specs.Controller.{together, viewOf, Good};
+ghost use Rattle.input_volume_controller.specs.Control.{controlOf};
+ghost use Rattle.input_volume_controller.specs.Frame.{questionOf, handled, unlessWaiting, ifUsed};
+ghost use Rattle.input_volume_controller.specs.Calls.{Framed};
+use crate::Analysis;
+use crate::Analyzed;
+use crate::InputVolumeController;
+use crate::clipped_ratio::compute_clipped_ratio;
+use crate::volume_control::VolumeControl;
+use clipping_predictor::ClippingPredictor;
+use clipping_predictor::modes::Asked;
+use clipping_predictor::modes::Estimated;
+use clipping_predictor::modes::Question;
+use mono_input_volume_controller::mono::MAX_INPUT_VOLUME;
+use numbers::truth::either;
+
+// What the rings are asked once a frame has entered them: nothing within the wait.
+fn question(control: VolumeControl) -> Question
+    ensures { λ r. ⌜ r ≡ questionOf (controlOf control) ⌝ }
+{
+    if control.since < control.settings.clipped_wait {
+        return Question::Nothing;
+    }
+    Question::Step(Asked {
+        level: control.volume,
+        step: control.settings.step,
+        least: control.settings.floor,
+        most: MAX_INPUT_VOLUME,
+    })
+}
+
+// The wait is over: clipping that is seen or predicted lowers every channel and empties the rings.
+fn tested(
+    control: VolumeControl,
+    predictor: ClippingPredictor,
+    e: Estimated,
+    clipped: bool,
+) -> Analyzed
+    requires { ⌜ Good (together control predictor) ⌝ }
+    ensures { λ r. ⌜ Framed (handled clipped e (viewOf (together control predictor))) r ⌝ }
+{
+    if !either(clipped, 0 < e.drop) {
+        return Analyzed {
+            answer: Analysis::Accepted(e.near),
+            controller: InputVolumeController { control, predictor },
+        };
+    }
+    let step = numbers::byte::larger(control.settings.step, e.drop);
+    Analyzed {
+        answer: Analysis::Accepted(e.near),
+        controller: InputVolumeController {
+            control: control.lower_channels(step),
+            predictor: predictor.reset(),
+        },
+    }
+}
+
+// A frame that is in the rings, with what they answered: within the wait it only counts.
+fn entered(
+    control: VolumeControl,
+    predictor: ClippingPredictor,
+    e: Estimated,
+    samples: usize,
+    frame: &[f32],
+) -> Analyzed
+    requires { ⌜ Good (together control predictor) × (frameFits (control .channels .count) samples (now frame) ≡ true) × (e ≡ predictedFor (questionOf (controlOf control)) (predictorOf predictor)) ⌝ }
+    ensures { λ r. ⌜ Framed (unlessWaiting (ltb (control .since) (control .settings .«clipped_wait»)) (lt (control .settings .«clipped_ratio») (clippedRatio (control .channels .count) samples (now (frame .entry)))) (viewOf (together control predictor))) r ⌝ }
+{
+    if control.since < control.settings.clipped_wait {
+        return Analyzed {
+            answer: Analysis::Accepted(false),
+            controller: InputVolumeController {
+                control: control.one_frame_more(),
+                predictor,
+            },
+        };
+    }
+    let ratio = compute_clipped_ratio(control.channels.count, samples, frame);
+    let threshold = control.settings.clipped_ratio;
+    tested(control, predictor, e, ratio > threshold)
+}
+
+// With capture on a frame enters the rings; with capture off it only sets the volume.
+pub fn accepted(
+    control: VolumeControl,
+    predictor: ClippingPredictor,
+    samples: usize,
+    frame: &[f32],
+) -> Analyzed
+    requires { ⌜ Good (together control predictor) × (frameFits (control .channels .count) samples (now frame) ≡ true) ⌝ }
+    ensures { λ r. ⌜ Framed (ifUsed (control .used) samples (now (frame .entry)) (viewOf (together control predictor))) r ⌝ }
+{
+    if control.used {
+        let heard = predictor.heard(samples, frame, question(control));
+        let with_frame = heard.predictor;
+        return entered(control, with_frame, heard.estimated, samples, frame);
+    }
+    Analyzed {
+        answer: Analysis::Accepted(false),
+        controller: InputVolumeController { control, predictor },
+    }
+}
