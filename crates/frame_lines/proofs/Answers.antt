@@ -17,7 +17,7 @@ pub record Fitting (text : List ℕ) : Type 0 where
   pub within : length text ≤ longest
   pub places : length (held text .bytes) ≡ longest
 
-number-fits : (t : Bool) (n : ℕ) → Fitting ((33 ∷ 32 ∷ []) ++ decimalIf t n ++ 10 ∷ [])
+pub number-fits : (t : Bool) (n : ℕ) → Fitting ((33 ∷ 32 ∷ []) ++ decimalIf t n ++ 10 ∷ [])
 number-fits true n = record { within = omega arith; places = refl }
 number-fits false n = record { within = omega arith; places = refl }
 

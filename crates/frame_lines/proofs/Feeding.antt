@@ -14,7 +14,7 @@ use Rattle.frame_lines.specs.Stream.{endedIf, ended, begunIf, begun}
 use Rattle.frame_lines.specs.Feeds.{behindIf, feedIf, firstFeed, placeFrom, feedFrom}
 use Rattle.frame_lines.proofs.Tests.{neither}
 use Rattle.frame_lines.proofs.Parts.{behind}
-use Rattle.frame_lines.proofs.Pieces.{joined, begunAfter, ended-after, begun-after, begun-all}
+use Rattle.frame_lines.proofs.Pieces.{joined, begunAfter, ended-after, begun-after}
 
 -- ---- the search
 
@@ -111,7 +111,7 @@ no-line (b ∷ text) e = no-feed-if b text (isFeed b) (firstFeed text) refl refl
 
 -- ---- what it tells of a piece that is read from a place on, where k was kept of the line that began before
 
-found-if : (start e : ℕ) (o : Option ℕ) → placeFrom start o ≡ At e → o ≡ some (e - start)
+pub found-if : (start e : ℕ) (o : Option ℕ) → placeFrom start o ≡ At e → o ≡ some (e - start)
 found-if start e none p = let z : _≡_ {A = ℕ} 0 1 = cc in absurd (omega arith)
 found-if start e (some n) p = let k : start + n ≡ e = cc in let m : n ≡ e - start = omega arith in ap some m
 
@@ -119,7 +119,7 @@ least-if : (start e : ℕ) (o : Option ℕ) → placeFrom start o ≡ At e → s
 least-if start e none p = let z : _≡_ {A = ℕ} 0 1 = cc in absurd (omega arith)
 least-if start e (some n) p = let k : start + n ≡ e = cc in omega arith
 
-lost-if : (start : ℕ) (o : Option ℕ) → placeFrom start o ≡ Nowhere → o ≡ none
+pub lost-if : (start : ℕ) (o : Option ℕ) → placeFrom start o ≡ Nowhere → o ≡ none
 lost-if start none p = refl
 lost-if start (some n) p = let z : _≡_ {A = ℕ} 0 1 = cc in absurd (omega arith)
 
@@ -154,6 +154,3 @@ module _ (k bytes : List ℕ) (start : ℕ) (u : ended k ≡ []) where
   pub no-line-ends : feedFrom bytes start ≡ Nowhere → ended (k ++ drop start bytes) ≡ []
   unfolding feedFrom
   no-line-ends p = ended-after k (drop start bytes) u ∙ ap (joined k) (no-line (drop start bytes) (lost-if start (firstFeed (drop start bytes)) p))
-
-  pub all-begins : feedFrom bytes start ≡ Nowhere → begun (k ++ drop start bytes) ≡ k ++ drop start bytes
-  all-begins p = begun-all (k ++ drop start bytes) (no-line-ends p)

@@ -10,5 +10,5 @@ pub mod Meanings
 pub mod Feeding
 pub mod Keeping
 pub mod Answers
-pub mod Turns
+pub mod LastLine
 pub mod Examples

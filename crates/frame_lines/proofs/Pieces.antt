@@ -150,7 +150,7 @@ begun-cut : (k : List ℕ) (lines : List (List ℕ)) (begins : List ℕ) → cut
 begun-cut k [] begins = cut-again k begins
 begun-cut k (line ∷ lines) begins = refl
 
-last-cut : (k : List ℕ) → map cut (lastLine (cut k)) ≡ map cut (lastLine k)
+pub last-cut : (k : List ℕ) → map cut (lastLine (cut k)) ≡ map cut (lastLine k)
 last-cut [] = refl
 last-cut (b ∷ k) = ap (λ (l : List ℕ). l ∷ []) (cut-cut (b ∷ k))
 

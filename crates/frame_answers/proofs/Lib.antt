@@ -1,0 +1,6 @@
+pub mod Recommended
+pub mod Lines
+pub mod InTwo
+pub mod Turns
+pub mod Streams
+pub mod Whole

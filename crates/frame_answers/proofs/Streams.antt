@@ -1,0 +1,130 @@
+-- A stream's calls, from what the calls that they make say. Assumes nothing.
+use mathlib.Core.Path.{_≡_, refl, sym, ap, subst, _∙_}
+use mathlib.Core.List.{List, [], _∷_, _++_, append-nil}
+use Prim.Native.Nat.{ℕ, _≤_}
+use native.Mathlib.Omega.{arith}
+use lib.IntN.{ℤ, pos}
+use lib.ListN.{length, take}
+use Rattle.mono_input_volume_controller.specs.declared.config.Config.{Config}
+use Rattle.mono_input_volume_controller.specs.Config.{defaults}
+use Rattle.input_volume_controller.specs.declared.Created.{Created}
+use Rattle.input_volume_controller.specs.declared.InputVolumeController.{InputVolumeController}
+use Rattle.input_volume_controller.specs.Controller.{makingOf, CreatedOf}
+use Rattle.input_volume_controller.specs.Controller as Controller
+use Rattle.frame_lines.specs.declared.answer.Reply.{Reply}
+use Rattle.frame_lines.specs.declared.answer.Reply.the-variants.{Volume, Refused}
+use Rattle.frame_lines.specs.declared.answer.Text.{Text}
+use Rattle.frame_lines.specs.declared.lines.Pending.{Pending}
+use Rattle.frame_lines.specs.Answer.{answerOf, held}
+use Rattle.frame_lines.specs.Stream.{keptCharacters, cut, ended, begun, lastLine}
+use Rattle.frame_lines.specs.Feeds.{kept, Keeps}
+use Rattle.frame_lines.proofs.Answers.{Fitting}
+use Rattle.frame_lines.proofs.Pieces.{begun-all, ended-take}
+use Rattle.frame_lines.proofs.LastLine.{last-one, last-none}
+use Rattle.frame_answers.specs.declared.answers.Answered.{Answered}
+use Rattle.frame_answers.specs.declared.stream.Stream.{Stream}
+use Rattle.frame_answers.specs.LineStep.{LineStep, lineStep}
+use Rattle.frame_answers.specs.Texts.{textOf, afterLines, textOfLines, startController}
+use Rattle.frame_answers.specs.Answered.{replySays, AnsweredAs}
+use Rattle.frame_answers.specs.Stream.{State, viewOf, Good, Becomes, freshState, afterPiece, finishedText, EndedAs}
+use Rattle.frame_answers.proofs.InTwo.{cut-step}
+use Rattle.frame_answers.proofs.Turns.{text-fits}
+
+nothing-ends : (p : Pending) → kept p ≡ [] → ended (kept p) ≡ []
+unfolding ended
+nothing-ends p e = ap ended e
+
+-- ---- a fresh stream
+
+pub starts-fresh : (z : ℤ) (config : Config) (m : Created) (p : Pending) → CreatedOf z config m → config ≡ defaults → Keeps [] p → z ≡ pos 1 → Becomes freshState (record { controller = m .controller; pending = p })
+unfolding startController
+starts-fresh z config m p c d k e = record {
+  good = record { controller = c .good; pending = k .good; unended = nothing-ends p (k .kept-is) };
+  is = λ i. record { controller = (c .view ∙ (λ j. makingOf (e j) (d j) .controller)) i; kept = k .kept-is i };
+}
+
+-- ---- the rest of a piece is kept
+
+pub keeps-part : (s : Stream) → Good s → (part : List ℕ) → ended (kept (s .pending) ++ part) ≡ [] → (p : Pending) → Keeps (cut (kept (s .pending) ++ part)) p
+    → Becomes (afterPiece (viewOf s) part) (record { controller = s .controller; pending = p })
+unfolding afterPiece afterLines
+keeps-part s good part none p k = record {
+  good = record {
+    controller = good .controller;
+    pending = k .good;
+    unended = ap ended (k .kept-is) ∙ ended-take keptCharacters (kept (s .pending) ++ part) none;
+  };
+  is = λ i. record {
+    controller = afterLines (viewOf s .controller) (sym none i);
+    kept = (k .kept-is ∙ ap cut (sym (begun-all (kept (s .pending) ++ part) none))) i;
+  };
+}
+
+-- ---- an answer's text
+
+says-text : (reply : Reply) → answerOf reply ≡ textOf (replySays reply)
+unfolding answerOf textOf
+says-text (Volume volume near) = refl
+says-text (Refused cause) = refl
+
+text-of : (c : InputVolumeController) (line : List ℕ) (a : Answered) → AnsweredAs c line a → (t : Text) → t ≡ held (answerOf (a .reply)) → t ≡ held (textOf (lineStep (Controller.viewOf c) line .answer))
+text-of c line a h t e = e ∙ ap held (says-text (a .reply) ∙ ap textOf (h .leads .reply))
+
+-- ---- a line ends
+
+module _ (s : Stream) (good : Good s) where
+  -- none was begun before
+  pub ends-within : s .pending .length ≡ 0 → (part : List ℕ) (a : Answered) → AnsweredAs (s .controller) part a → (t : Text) → t ≡ held (answerOf (a .reply))
+      → EndedAs (viewOf s) part (record { stream = record { controller = a .controller; pending = s .pending }; text = t })
+  ends-within e part a h t k =
+      let none : kept (s .pending) ≡ [] = ap (λ (n : ℕ). take n (s .pending .bytes)) e in
+      let same : lineStep (viewOf s .controller) part ≡ lineStep (viewOf s .controller) (kept (s .pending) ++ part) = ap (λ (l : List ℕ). lineStep (viewOf s .controller) (l ++ part)) (sym none) in
+      record {
+        stream = record {
+          good = record { controller = h .leads .good; pending = good .pending; unended = good .unended };
+          is = λ i. record { controller = (h .leads .view ∙ ap (λ (x : LineStep). x .state) same) i; kept = none i };
+        };
+        text = text-of (s .controller) part a h t k ∙ ap (λ (x : LineStep). held (textOf (x .answer))) same;
+      }
+
+  -- one was: what was kept of it, and the part
+  pub ends-begun : (part : List ℕ) (w : Pending) → Keeps (cut (kept (s .pending) ++ part)) w → (a : Answered) → AnsweredAs (s .controller) (kept w) a
+      → (p : Pending) → Keeps [] p → (t : Text) → t ≡ held (answerOf (a .reply)) → EndedAs (viewOf s) part (record { stream = record { controller = a .controller; pending = p }; text = t })
+  ends-begun part w k a h p c t q =
+      let same : lineStep (viewOf s .controller) (kept w) ≡ lineStep (viewOf s .controller) (kept (s .pending) ++ part) = ap (lineStep (viewOf s .controller)) (k .kept-is) ∙ cut-step (viewOf s .controller) (kept (s .pending) ++ part) in
+      record {
+        stream = record {
+          good = record { controller = h .leads .good; pending = c .good; unended = nothing-ends p (c .kept-is) };
+          is = λ i. record { controller = (h .leads .view ∙ ap (λ (x : LineStep). x .state) same) i; kept = c .kept-is i };
+        };
+        text = text-of (s .controller) (kept w) a h t q ∙ ap (λ (x : LineStep). held (textOf (x .answer))) same;
+      }
+
+-- ---- the end of the input
+
+pub nothing-left : (s : Stream) → s .pending .length ≡ 0 → record { bytes = 0 ∷ 0 ∷ 0 ∷ 0 ∷ 0 ∷ []; length = 0 } ≡ held (finishedText (viewOf s))
+unfolding finishedText textOfLines
+nothing-left s e = ap (λ (lines : List (List ℕ)). held (textOfLines (viewOf s .controller) lines)) (sym (last-none (s .pending) e))
+
+pub line-left : (s : Stream) → Good s → (s .pending .length ≡ 0 → ⊥) → (a : Answered) → AnsweredAs (s .controller) (kept (s .pending)) a → (t : Text) → t ≡ held (answerOf (a .reply)) → t ≡ held (finishedText (viewOf s))
+unfolding finishedText textOfLines
+line-left s good more a h t k =
+    text-of (s .controller) (kept (s .pending)) a h t k
+    ∙ ap held (sym (append-nil (textOf (lineStep (viewOf s .controller) (kept (s .pending)) .answer))))
+    ∙ ap (λ (lines : List (List ℕ)). held (textOfLines (viewOf s .controller) lines)) (sym (last-one (s .pending) (good .pending) (omega arith)))
+
+-- what is left is answered by one line at most
+left-fits : (c : Controller.Controller) (l : List ℕ) → Fitting (textOfLines c (lastLine l))
+unfolding textOfLines
+left-fits c [] = record { within = omega arith; places = refl }
+left-fits c (b ∷ l) = subst Fitting (sym (append-nil (textOf (lineStep c (b ∷ l) .answer)))) (text-fits (lineStep c (b ∷ l) .answer))
+
+finished-fits : (s : State) → Fitting (finishedText s)
+unfolding finishedText
+finished-fits s = left-fits (s .controller) (s .kept)
+
+-- so it lies within its array
+pub finished-within : (s : State) (t : Text) → t ≡ held (finishedText s) → t .length ≤ length (t .bytes)
+finished-within s t e =
+    let f = finished-fits s in
+    omega (arith, f .within, f .places, ap (λ (x : Text). x .length) e, ap (λ (x : Text). length (x .bytes)) e)

@@ -1,0 +1,4 @@
+pub mod LineStep
+pub mod Texts
+pub mod Answered
+pub mod Stream

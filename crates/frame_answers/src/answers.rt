@@ -1,0 +1,80 @@
+// A line with a controller: its frame, and the recommendation that follows an accepted frame.
+ghost use mathlib.Core.Path.{_≡_};
+ghost use Rattle.input_volume_controller.specs.Controller.{Good, viewOf};
+ghost use Rattle.frame_answers.specs.LineStep.{levelFor};
+ghost use Rattle.frame_answers.specs.Answered.{RecommendedAs, AnsweredAs, VolumePending};
+use frame_lines::answer::Reply;
+use frame_lines::line::MOST_SAMPLES;
+use frame_lines::line::Parsed;
+use frame_lines::line::parse;
+use input_volume_controller::Analysis;
+use input_volume_controller::InputVolumeController;
+use input_volume_controller::Recommendation;
+use mono_input_volume_controller::speech_level::SpeechLevel;
+use numbers::refusal::Refusal;
+
+// What a line is answered, and the controller after it.
+pub struct Answered {
+    pub reply: Reply,
+    pub controller: InputVolumeController,
+}
+
+// The line's speech level as the controller's.
+fn level_for(level: frame_lines::line::SpeechLevel) -> SpeechLevel
+    ensures { λ r. ⌜ r ≡ levelFor level ⌝ }
+{
+    match level {
+        frame_lines::line::SpeechLevel::Absent => SpeechLevel::Absent,
+        frame_lines::line::SpeechLevel::Dbfs(dbfs) => SpeechLevel::Dbfs(dbfs),
+    }
+}
+
+// The recommendation after a frame, beside that frame's mark. With a volume pending there always is one.
+fn recommended(
+    controller: InputVolumeController,
+    near: bool,
+    probability: f32,
+    level: SpeechLevel,
+) -> Answered
+    requires { ⌜ Good controller × VolumePending (viewOf controller) ⌝ }
+    ensures { λ r. ⌜ RecommendedAs controller near probability level r ⌝ }
+{
+    let done = controller.recommend_input_volume(probability, level);
+    let answer = done.answer;
+    let next = done.controller;
+    let Recommendation::Volume(volume) = answer else {
+        return Answered {
+            reply: Reply::Volume(0, near),
+            controller: next,
+        };
+    };
+    Answered {
+        reply: Reply::Volume(numbers::sign::size(volume) as u8, near),
+        controller: next,
+    }
+}
+
+// A line, without its line feed.
+pub fn answer_line(controller: InputVolumeController, line: &[u8]) -> Answered
+    requires { ⌜ Good controller ⌝ }
+    ensures { λ r. ⌜ AnsweredAs controller (now (line .entry)) r ⌝ }
+{
+    let mut samples = [0.0f32; MOST_SAMPLES];
+    let parsed = parse(line, &mut samples);
+    let Parsed::Frame(volume, probability, level, n) = parsed else {
+        return Answered {
+            reply: Reply::Refused(Refusal::FrameLine),
+            controller,
+        };
+    };
+    let heard = controller.analyze_input_audio(volume as i32, n, &samples[..n]);
+    let answer = heard.answer;
+    let next = heard.controller;
+    match answer {
+        Analysis::Refused(cause) => Answered {
+            reply: Reply::Refused(cause),
+            controller: next,
+        },
+        Analysis::Accepted(near) => recommended(next, near, probability, level_for(level)),
+    }
+}
