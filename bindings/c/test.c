@@ -1,0 +1,218 @@
+/* Drives the archive through include/agc2.h. The sizes are held to what the archive states and to what it writes. */
+#include "agc2.h"
+
+#include <stdio.h>
+#include <stdlib.h>
+#include <string.h>
+
+static int checks = 0;
+
+static void check(int holds, const char *what) {
+    checks++;
+    if (!holds) {
+        printf("FAILED: %s\n", what);
+        exit(1);
+    }
+}
+
+#define CHECK(fact) check((fact) != 0, #fact)
+
+/* ---- the layout */
+
+static void sizes_are_those_the_archive_states(void) {
+    agc2_layout_of l = agc2_layout();
+    CHECK(l.control_size == sizeof(agc2_control));
+    CHECK(l.control_state == offsetof(agc2_control, state));
+    CHECK(l.controller_size == sizeof(agc2_controller));
+    CHECK(l.controller_control == offsetof(agc2_controller, control));
+    CHECK(l.controller_predictor == offsetof(agc2_controller, predictor));
+    CHECK(l.config_size == sizeof(agc2_config));
+    CHECK(l.record_size == sizeof(agc2_record));
+}
+
+/* A large result is written through a pointer that is passed first. Called with that pointer in sight, a function shows how far it writes:
+ * the last byte that is the same whatever stood there before. */
+typedef void *(*creates)(void *result, int32_t num_capture_channels, agc2_config config);
+typedef void *(*initializes)(void *result, agc2_control_state control);
+
+static _Alignas(8) unsigned char zeros[8192], ones[8192];
+
+static size_t written(void) {
+    size_t end = 0;
+    for (size_t i = 0; i < sizeof zeros; i++) {
+        if (zeros[i] == ones[i]) {
+            end = i + 1;
+        }
+    }
+    return end;
+}
+
+static void before_writing(void) {
+    memset(zeros, 0, sizeof zeros);
+    memset(ones, 255, sizeof ones);
+}
+
+static void sizes_are_those_the_archive_writes(void) {
+    static const float frame[8] = {0};
+    agc2_controller c;
+    CHECK(agc2_new(&c, 8, agc2_default_config()) == 0);
+
+    creates create = (creates)(void (*)(void))agc2_new_by_value;
+    before_writing();
+    create(zeros, 1, agc2_default_config());
+    create(ones, 1, agc2_default_config());
+    CHECK(written() == sizeof(agc2_controller));
+
+    before_writing();
+    memcpy(zeros, &c, sizeof c);
+    memcpy(ones, &c, sizeof c);
+    agc2_analyze_input_audio_into((agc2_controller *)(void *)zeros, 100, 1, frame, 8);
+    agc2_analyze_input_audio_into((agc2_controller *)(void *)ones, 100, 1, frame, 8);
+    CHECK(written() == sizeof(agc2_controller));
+
+    initializes initialize = (initializes)(void (*)(void))agc2_initialize_by_value;
+    before_writing();
+    initialize(zeros, c.control.state);
+    initialize(ones, c.control.state);
+    CHECK(written() == sizeof(agc2_control_state));
+
+    before_writing();
+    memcpy(zeros, &c.control, sizeof c.control);
+    memcpy(ones, &c.control, sizeof c.control);
+    agc2_recommend_input_volume_into((agc2_control *)(void *)zeros, 0.5f, 0, 0.0f);
+    agc2_recommend_input_volume_into((agc2_control *)(void *)ones, 0.5f, 0, 0.0f);
+    CHECK(written() == sizeof(agc2_control));
+}
+
+/* ---- the calls */
+
+static void default_settings(void) {
+    agc2_config d = agc2_default_config();
+    CHECK(d.min_input_volume == 20 && d.clipped_level_min == 70 && d.clipped_level_step == 15);
+    CHECK(d.clipped_ratio_threshold == 0.1f && d.clipped_wait_frames == 300 && d.enable_clipping_predictor == 1);
+    CHECK(d.target_range_max_dbfs == -30 && d.target_range_min_dbfs == -50 && d.update_input_volume_wait_frames == 100);
+    CHECK(d.speech_probability_threshold == 0.7f && d.speech_ratio_threshold == 0.6f);
+}
+
+/* The example of document 01, "The frame-line program": frames of four samples, default settings, one channel. */
+static void the_example(void) {
+    static const float silent[4] = {0}, clipped[4] = {32767, 32767, 0, 0};
+    agc2_controller c;
+    int32_t volume = -1;
+    CHECK(agc2_new(&c, 1, agc2_default_config()) == 0);
+    CHECK(agc2_recommend_input_volume(&c, 0.0f, NULL, &volume) == 0 && volume == -1);
+
+    CHECK(agc2_analyze_input_audio(&c, 0xc8, 4, silent, 4) == 0 && agc2_near(&c) == 0);
+    CHECK(agc2_recommend_input_volume(&c, 0.0f, NULL, &volume) == 1 && volume == 0xc8);
+    CHECK(agc2_analyze_input_audio(&c, 0xc8, 4, clipped, 4) == 0);
+    CHECK(agc2_recommend_input_volume(&c, 0.0f, NULL, &volume) == 1 && volume == 0xb9);
+    CHECK(agc2_analyze_input_audio(&c, 0xb9, 4, silent, 4) == 0);
+    CHECK(agc2_recommend_input_volume(&c, 0.0f, NULL, &volume) == 1 && volume == 0xb9);
+    CHECK(agc2_recommended_input_volume(&c) == 0xb9);
+}
+
+static void refusals(void) {
+    static const float frame[961] = {0};
+    agc2_config d = agc2_default_config();
+    agc2_controller c, before;
+    int32_t volume = 0;
+    memset(&c, 0x55, sizeof c);
+    memcpy(&before, &c, sizeof c);
+    CHECK(agc2_new(&c, 0, d) == AGC2_CHANNEL_COUNT && agc2_new(&c, 9, d) == AGC2_CHANNEL_COUNT);
+    d.min_input_volume = 256;
+    CHECK(agc2_new(&c, 1, d) == AGC2_MINIMUM_VOLUME);
+    d = agc2_default_config();
+    d.clipped_level_step = 0;
+    CHECK(agc2_new(&c, 1, d) == AGC2_CLIPPED_LEVEL_STEP);
+    d = agc2_default_config();
+    d.clipped_wait_frames = 65536;
+    CHECK(agc2_new(&c, 1, d) == AGC2_WAIT_FRAMES);
+    d = agc2_default_config();
+    d.target_range_min_dbfs = -91;
+    CHECK(agc2_new(&c, 1, d) == AGC2_TARGET_RANGE);
+    d = agc2_default_config();
+    memset(&d.speech_ratio_threshold, 255, sizeof d.speech_ratio_threshold);
+    CHECK(agc2_new(&c, 1, d) == AGC2_SPEECH_THRESHOLD);
+    CHECK(memcmp(&c, &before, sizeof c) == 0);
+    CHECK(strcmp(agc2_words(AGC2_SPEECH_THRESHOLD), "speech probability or speech ratio threshold not 0 to 1, or not a number") == 0);
+
+    CHECK(agc2_new(&c, 2, agc2_default_config()) == 0);
+    CHECK(agc2_analyze_input_audio(&c, 200, 480, frame, 960) == AGC2_ACCEPTED);
+    CHECK(agc2_analyze_input_audio(&c, -1, 480, frame, 960) == AGC2_INPUT_VOLUME);
+    CHECK(agc2_analyze_input_audio(&c, 256, 480, frame, 960) == AGC2_INPUT_VOLUME);
+    CHECK(agc2_analyze_input_audio(&c, 100, 480, frame, 961) == AGC2_FRAME_SIZE);
+    CHECK(agc2_analyze_input_audio(&c, 100, 0, frame, 0) == AGC2_FRAME_SIZE);
+    CHECK(agc2_analyze_input_audio(&c, 100, SIZE_MAX, frame, 960) == AGC2_FRAME_SIZE);
+    CHECK(agc2_stored_record(&c, 0, 1).present == 0);
+    CHECK(agc2_recommend_input_volume(&c, 0.0f, NULL, &volume) == 1 && volume == 200);
+    CHECK(agc2_analyze_input_audio(&c, 255, 480, frame, 960) == AGC2_ACCEPTED);
+}
+
+/* Any number but 0 is a yes. */
+static void flags(void) {
+    static const float frame[4] = {0};
+    agc2_config d = agc2_default_config();
+    agc2_controller on, off;
+    int32_t volume = 0;
+    d.enable_clipping_predictor = 0x80000000u;
+    CHECK(agc2_new(&on, 1, d) == 0);
+    d.enable_clipping_predictor = 0;
+    CHECK(agc2_new(&off, 1, d) == 0);
+    CHECK(agc2_analyze_input_audio(&on, 100, 4, frame, 4) == 0 && agc2_analyze_input_audio(&off, 100, 4, frame, 4) == 0);
+    CHECK(agc2_stored_record(&on, 0, 0).present == 1);
+    CHECK(agc2_stored_record(&off, 0, 0).present == 0);
+
+    agc2_handle_capture_output_used_change(&on, 0);
+    CHECK(agc2_analyze_input_audio(&on, 150, 4, frame, 4) == 0);
+    CHECK(agc2_stored_record(&on, 0, 1).present == 0);
+    CHECK(agc2_recommend_input_volume(&on, 0.9f, NULL, &volume) == 1 && volume == 150);
+    CHECK(agc2_recommend_input_volume(&on, 0.9f, NULL, &volume) == 1 && volume == 150);
+    agc2_handle_capture_output_used_change(&on, 256);
+    CHECK(agc2_recommend_input_volume(&on, 0.9f, NULL, &volume) == 1);
+    CHECK(agc2_recommend_input_volume(&on, 0.9f, NULL, &volume) == 0);
+}
+
+/* Initialise keeps the rings; each channel has its own part of the frame. */
+static void records(void) {
+    static const float frame[6] = {3, -4, 0, 1, 2, -5};
+    agc2_controller c;
+    int32_t volume = 0;
+    CHECK(agc2_new(&c, 2, agc2_default_config()) == 0);
+    CHECK(agc2_analyze_input_audio(&c, 100, 3, frame, 6) == 0);
+    agc2_record first = agc2_stored_record(&c, 0, 0), second = agc2_stored_record(&c, 1, 0);
+    CHECK(first.present == 1 && first.average == 25.0f / 3.0f && first.max == 4.0f);
+    CHECK(second.present == 1 && second.average == 10.0f && second.max == 5.0f);
+    CHECK(agc2_stored_record(&c, 0, 1).present == 0 && agc2_stored_record(&c, 2, 0).present == 0 && agc2_stored_record(&c, SIZE_MAX, SIZE_MAX).present == 0);
+    agc2_initialize(&c);
+    CHECK(agc2_stored_record(&c, 1, 0).max == 5.0f);
+    CHECK(agc2_recommend_input_volume(&c, 0.0f, NULL, &volume) == 0);
+}
+
+/* Speech that is too quiet raises the volume; without a speech level it stays. */
+static void speech(void) {
+    static const float frame[4] = {0};
+    static const float quiet = -70.0f;
+    agc2_controller with, without;
+    int32_t raised = 0, kept = 0, highest = 0;
+    CHECK(agc2_new(&with, 1, agc2_default_config()) == 0 && agc2_new(&without, 1, agc2_default_config()) == 0);
+    for (int k = 0; k < 101; k++) {
+        CHECK(agc2_analyze_input_audio(&with, 100, 4, frame, 4) == 0 && agc2_analyze_input_audio(&without, 100, 4, frame, 4) == 0);
+        CHECK(agc2_recommend_input_volume(&with, 0.9f, &quiet, &raised) == 1);
+        CHECK(agc2_recommend_input_volume(&without, 0.9f, NULL, &kept) == 1 && kept == 100);
+        highest = raised > highest ? raised : highest;
+    }
+    CHECK(highest > 100);
+}
+
+int main(void) {
+    sizes_are_those_the_archive_states();
+    sizes_are_those_the_archive_writes();
+    default_settings();
+    the_example();
+    refusals();
+    flags();
+    records();
+    speech();
+    printf("c: %d checks hold; a controller has %zu bytes\n", checks, sizeof(agc2_controller));
+    return 0;
+}

@@ -1,0 +1,180 @@
+//! The input volume controller of WebRTC's AGC2, over a library in which every function is proved to meet its contract.
+//!
+//! [`InputVolumeController`] has the names and the meaning of aec3-rs's. What differs: an `AudioBuffer` is one slice, channels one after another,
+//! and what the original asserts is answered with a [`Refusal`], which leaves the controller as it was.
+//!
+//! ```
+//! use agc2::{Config, InputVolumeController, Refusal};
+//!
+//! let mut controller = InputVolumeController::new(1, Config::default())?;
+//! let frame = [0.0f32; 480];
+//! controller.analyze_input_audio(200, 480, &frame)?;
+//! assert_eq!(controller.recommend_input_volume(0.9, Some(-40.0)), Some(200));
+//! assert_eq!(controller.analyze_input_audio(256, 480, &frame), Err(Refusal::InputVolume));
+//! # Ok::<(), Refusal>(())
+//! ```
+//!
+//! The archive's contracts ask for one thing, a controller that its own making and calls handed out. Nothing outside this crate can write
+//! one, so no safe code can break that.
+#![warn(missing_docs)]
+
+mod raw;
+mod refusal;
+
+use std::fmt;
+
+pub use refusal::Refusal;
+
+/// The most channels that a controller has.
+pub const MAX_CHANNELS: usize = 8;
+
+/// The most samples that a frame has in one channel.
+pub const MAX_SAMPLES_PER_CHANNEL: usize = 480;
+
+/// The settings, as in the original; `target_range_experimental_max_dbfs`, which nothing reads, is left out.
+#[derive(Debug, Clone, Copy, PartialEq)]
+pub struct Config {
+    /// The lowest volume that is recommended, unless the applied one is 0. 0 to 255.
+    pub min_input_volume: i32,
+    /// Clipping lowers the volume no further than this. 0 to 255.
+    pub clipped_level_min: i32,
+    /// By how much clipping lowers the volume. 1 to 255.
+    pub clipped_level_step: i32,
+    /// The share of clipped samples above which a frame counts as clipped.
+    pub clipped_ratio_threshold: f32,
+    /// How many frames after clipping are not tested. 0 to 65,535.
+    pub clipped_wait_frames: i32,
+    /// Whether clipping is predicted.
+    pub enable_clipping_predictor: bool,
+    /// The highest speech level that is left alone, in dBFS. -90 to 30.
+    pub target_range_max_dbfs: i32,
+    /// The lowest speech level that is left alone, in dBFS. -90 to 30.
+    pub target_range_min_dbfs: i32,
+    /// How many frames lie between two corrections. 0 to 65,535; 0 means 1.
+    pub update_input_volume_wait_frames: i32,
+    /// The probability from which a frame counts as speech. 0 to 1.
+    pub speech_probability_threshold: f32,
+    /// The share of speech frames from which a correction is made. 0 to 1.
+    pub speech_ratio_threshold: f32,
+}
+
+impl Default for Config {
+    /// The original's default settings.
+    fn default() -> Self {
+        // SAFETY: the function takes nothing and asks for nothing.
+        let c = unsafe { raw::agc2_default_config() };
+        Config {
+            min_input_volume: c.min_input_volume,
+            clipped_level_min: c.clipped_level_min,
+            clipped_level_step: c.clipped_level_step,
+            clipped_ratio_threshold: c.clipped_ratio_threshold,
+            clipped_wait_frames: c.clipped_wait_frames,
+            enable_clipping_predictor: c.enable_clipping_predictor != 0,
+            target_range_max_dbfs: c.target_range_max_dbfs,
+            target_range_min_dbfs: c.target_range_min_dbfs,
+            update_input_volume_wait_frames: c.update_input_volume_wait_frames,
+            speech_probability_threshold: c.speech_probability_threshold,
+            speech_ratio_threshold: c.speech_ratio_threshold,
+        }
+    }
+}
+
+impl Config {
+    fn in_numbers(self) -> raw::Config {
+        raw::Config {
+            min_input_volume: self.min_input_volume,
+            clipped_level_min: self.clipped_level_min,
+            clipped_level_step: self.clipped_level_step,
+            clipped_ratio_threshold: self.clipped_ratio_threshold,
+            clipped_wait_frames: self.clipped_wait_frames,
+            enable_clipping_predictor: u32::from(self.enable_clipping_predictor),
+            target_range_max_dbfs: self.target_range_max_dbfs,
+            target_range_min_dbfs: self.target_range_min_dbfs,
+            update_input_volume_wait_frames: self.update_input_volume_wait_frames,
+            speech_probability_threshold: self.speech_probability_threshold,
+            speech_ratio_threshold: self.speech_ratio_threshold,
+        }
+    }
+}
+
+/// A frame that was taken.
+#[derive(Debug, Clone, Copy, PartialEq, Eq)]
+pub struct Accepted {
+    /// Whether an estimate of it compared two levels so close that the original, which rounds logarithms, may have decided otherwise.
+    pub near: bool,
+}
+
+/// What a channel's ring keeps of a frame.
+#[derive(Debug, Clone, Copy, PartialEq)]
+pub struct Level {
+    /// The mean square of the samples.
+    pub average: f32,
+    /// The largest magnitude.
+    pub max: f32,
+}
+
+/// Recommends the input volume of a capture device from its frames.
+#[derive(Clone)]
+pub struct InputVolumeController {
+    raw: raw::Controller,
+}
+
+impl InputVolumeController {
+    /// A controller of 1 to 8 channels. Refuses with causes 1 to 6.
+    pub fn new(num_capture_channels: i32, config: Config) -> Result<Self, Refusal> {
+        // SAFETY: the function takes any numbers.
+        let made = unsafe { raw::agc2_new_by_value(num_capture_channels, config.in_numbers()) };
+        Refusal::check(made.refusal)?;
+        Ok(InputVolumeController { raw: made })
+    }
+
+    /// Starts anew, but keeps the rings, the startup, the volumes and the wait after clipping.
+    pub fn initialize(&mut self) {
+        // SAFETY: the state is one that the library handed out.
+        self.raw.control.state = unsafe { raw::agc2_initialize_by_value(self.raw.control.state) };
+    }
+
+    /// A frame of all channels, one after another, each of `samples_per_channel` samples on the 16-bit scale, captured at the volume
+    /// that is applied. Refuses with causes 8 and 9.
+    pub fn analyze_input_audio(&mut self, applied_input_volume: i32, samples_per_channel: usize, samples: &[f32]) -> Result<Accepted, Refusal> {
+        // SAFETY: the state is one that the library handed out, and the pointer and the length are the slice's, which is not ours.
+        unsafe { raw::agc2_analyze_input_audio_into(&mut self.raw, applied_input_volume, samples_per_channel, samples.as_ptr(), samples.len()) };
+        Refusal::check(self.raw.refusal)?;
+        Ok(Accepted { near: self.raw.near != 0 })
+    }
+
+    /// The volume to apply, or none where no frame came since the last recommendation.
+    pub fn recommend_input_volume(&mut self, speech_probability: f32, speech_level_dbfs: Option<f32>) -> Option<i32> {
+        let has_speech_level = u32::from(speech_level_dbfs.is_some());
+        let control = &mut self.raw.control;
+        // SAFETY: the state is one that the library handed out.
+        unsafe { raw::agc2_recommend_input_volume_into(control, speech_probability, has_speech_level, speech_level_dbfs.unwrap_or(0.0)) };
+        (control.present != 0).then_some(control.volume)
+    }
+
+    /// Whether the captured sound is used. While it is not, frames only set the volume and recommendations repeat it.
+    pub fn handle_capture_output_used_change(&mut self, capture_output_used: bool) {
+        // SAFETY: the state is one that the library handed out.
+        self.raw.control.state = unsafe { raw::agc2_handle_capture_output_used_change_by_value(self.raw.control.state, u32::from(capture_output_used)) };
+    }
+
+    /// The controller's volume.
+    pub fn recommended_input_volume(&self) -> i32 {
+        // SAFETY: the state is one that the library handed out.
+        unsafe { raw::agc2_recommended_input_volume_by_value(self.raw.control.state) }
+    }
+
+    /// The i-th record that a channel's ring stores, the newest being the 0th.
+    pub fn stored_record(&self, channel: usize, i: usize) -> Option<Level> {
+        // SAFETY: the state is one that the library handed out.
+        let r = unsafe { raw::agc2_stored_record_by_value(self.raw, channel, i) };
+        (r.present != 0).then_some(Level { average: r.average, max: r.max })
+    }
+}
+
+impl fmt::Debug for InputVolumeController {
+    /// The volume alone: the rest belongs to the library.
+    fn fmt(&self, f: &mut fmt::Formatter<'_>) -> fmt::Result {
+        f.debug_struct("InputVolumeController").field("recommended_input_volume", &self.recommended_input_volume()).finish_non_exhaustive()
+    }
+}

@@ -1,0 +1,105 @@
+//! The functions of the archive and the structs that they pass, as include/agc2.h has them. A test holds the sizes to what the archive states.
+
+/// All of a controller but its predictor. Its words belong to the library.
+#[repr(C)]
+#[derive(Clone, Copy)]
+pub struct ControlState {
+    words: [u64; 40],
+}
+
+/// The predictor with its rings. Its words belong to the library.
+#[repr(C)]
+#[derive(Clone, Copy)]
+pub struct PredictorState {
+    words: [u64; 542],
+}
+
+/// With the answer to the last recommendation.
+#[repr(C)]
+#[derive(Clone, Copy)]
+pub struct Control {
+    pub present: u32,
+    pub volume: i32,
+    pub state: ControlState,
+}
+
+/// A controller with the answer to its making or to its last frame.
+#[repr(C)]
+#[derive(Clone, Copy)]
+pub struct Controller {
+    pub refusal: u32,
+    pub near: u32,
+    pub control: Control,
+    pub predictor: PredictorState,
+}
+
+#[repr(C)]
+#[derive(Clone, Copy)]
+pub struct Config {
+    pub min_input_volume: i32,
+    pub clipped_level_min: i32,
+    pub clipped_level_step: i32,
+    pub clipped_ratio_threshold: f32,
+    pub clipped_wait_frames: i32,
+    pub enable_clipping_predictor: u32,
+    pub target_range_max_dbfs: i32,
+    pub target_range_min_dbfs: i32,
+    pub update_input_volume_wait_frames: i32,
+    pub speech_probability_threshold: f32,
+    pub speech_ratio_threshold: f32,
+}
+
+#[repr(C)]
+pub struct Record {
+    pub present: u32,
+    pub average: f32,
+    pub max: f32,
+}
+
+#[cfg(test)]
+#[repr(C)]
+#[derive(Debug, PartialEq, Eq)]
+pub struct Layout {
+    pub control_size: u32,
+    pub control_state: u32,
+    pub controller_size: u32,
+    pub controller_control: u32,
+    pub controller_predictor: u32,
+    pub config_size: u32,
+    pub record_size: u32,
+}
+
+extern "C" {
+    pub fn agc2_default_config() -> Config;
+    pub fn agc2_new_by_value(num_capture_channels: i32, config: Config) -> Controller;
+    pub fn agc2_initialize_by_value(control: ControlState) -> ControlState;
+    pub fn agc2_handle_capture_output_used_change_by_value(control: ControlState, capture_output_used: u32) -> ControlState;
+    pub fn agc2_analyze_input_audio_into(controller: &mut Controller, applied_input_volume: i32, samples_per_channel: usize, samples: *const f32, count: usize);
+    pub fn agc2_recommend_input_volume_into(control: &mut Control, speech_probability: f32, has_speech_level: u32, speech_level_dbfs: f32);
+    pub fn agc2_recommended_input_volume_by_value(control: ControlState) -> i32;
+    pub fn agc2_stored_record_by_value(controller: Controller, channel: usize, i: usize) -> Record;
+    #[cfg(test)]
+    pub fn agc2_layout() -> Layout;
+}
+
+#[cfg(test)]
+mod tests {
+    use super::*;
+    use std::mem::{align_of, offset_of, size_of};
+
+    #[test]
+    fn sizes_are_those_the_archive_states() {
+        let here = Layout {
+            control_size: size_of::<Control>() as u32,
+            control_state: offset_of!(Control, state) as u32,
+            controller_size: size_of::<Controller>() as u32,
+            controller_control: offset_of!(Controller, control) as u32,
+            controller_predictor: offset_of!(Controller, predictor) as u32,
+            config_size: size_of::<Config>() as u32,
+            record_size: size_of::<Record>() as u32,
+        };
+        // SAFETY: the function takes nothing and asks for nothing.
+        assert_eq!(unsafe { agc2_layout() }, here);
+        assert_eq!(align_of::<Controller>(), 8);
+    }
+}

@@ -1,0 +1,65 @@
+//! Why a call says no.
+use std::error::Error;
+use std::fmt;
+
+/// A refusal, with its number (`as u32`, or [`Refusal::number`]). A refused call leaves the controller as it was.
+#[derive(Debug, Clone, Copy, PartialEq, Eq, Hash)]
+#[repr(u32)]
+pub enum Refusal {
+    /// channel count not 1 to 8
+    ChannelCount = 1,
+    /// min_input_volume or clipped_level_min not 0 to 255
+    MinimumVolume = 2,
+    /// clipped_level_step not 1 to 255
+    ClippedLevelStep = 3,
+    /// clipped_wait_frames or update_input_volume_wait_frames not 0 to 65,535
+    WaitFrames = 4,
+    /// a target not -90 to 30 dBFS
+    TargetRange = 5,
+    /// speech probability or speech ratio threshold not 0 to 1, or not a number
+    SpeechThreshold = 6,
+    /// a volume not 0 to 255
+    InputVolume = 8,
+    /// samples per channel not 1 to 480, or lent samples not channels × that
+    FrameSize = 9,
+}
+
+impl Refusal {
+    /// The number of the cause.
+    pub fn number(self) -> u32 {
+        self as u32
+    }
+
+    /// `Ok` at 0. The contracts of the library allow no other numbers than these.
+    pub(crate) fn check(number: u32) -> Result<(), Refusal> {
+        Err(match number {
+            0 => return Ok(()),
+            1 => Refusal::ChannelCount,
+            2 => Refusal::MinimumVolume,
+            3 => Refusal::ClippedLevelStep,
+            4 => Refusal::WaitFrames,
+            5 => Refusal::TargetRange,
+            6 => Refusal::SpeechThreshold,
+            8 => Refusal::InputVolume,
+            9 => Refusal::FrameSize,
+            other => unreachable!("libagc2.a answered {other}, which is no refusal of it"),
+        })
+    }
+}
+
+impl fmt::Display for Refusal {
+    fn fmt(&self, f: &mut fmt::Formatter<'_>) -> fmt::Result {
+        f.write_str(match self {
+            Refusal::ChannelCount => "channel count not 1 to 8",
+            Refusal::MinimumVolume => "min_input_volume or clipped_level_min not 0 to 255",
+            Refusal::ClippedLevelStep => "clipped_level_step not 1 to 255",
+            Refusal::WaitFrames => "clipped_wait_frames or update_input_volume_wait_frames not 0 to 65,535",
+            Refusal::TargetRange => "a target not -90 to 30 dBFS",
+            Refusal::SpeechThreshold => "speech probability or speech ratio threshold not 0 to 1, or not a number",
+            Refusal::InputVolume => "a volume not 0 to 255",
+            Refusal::FrameSize => "samples per channel not 1 to 480, or lent samples not channels × that",
+        })
+    }
+}
+
+impl Error for Refusal {}

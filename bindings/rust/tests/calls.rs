@@ -1,0 +1,126 @@
+//! Drives the bindings as a tablet would.
+use agc2::{Accepted, Config, InputVolumeController, Refusal, MAX_CHANNELS, MAX_SAMPLES_PER_CHANNEL};
+
+fn made(channels: i32) -> InputVolumeController {
+    InputVolumeController::new(channels, Config::default()).unwrap()
+}
+
+/// The example of document 01, "The frame-line program": frames of four samples, default settings, one channel.
+#[test]
+fn the_example() {
+    let mut c = made(1);
+    assert_eq!(c.recommend_input_volume(0.0, None), None);
+    let lines = [(0xc8, [0.0; 4], 0xc8), (0xc8, [32767.0, 32767.0, 0.0, 0.0], 0xb9), (0xb9, [0.0; 4], 0xb9)];
+    for (applied, samples, recommended) in lines {
+        assert_eq!(c.analyze_input_audio(applied, 4, &samples), Ok(Accepted { near: false }));
+        assert_eq!(c.recommend_input_volume(0.0, None), Some(recommended));
+    }
+    assert_eq!(c.recommended_input_volume(), 0xb9);
+}
+
+#[test]
+fn default_settings_are_the_originals() {
+    let original = Config {
+        min_input_volume: 20,
+        clipped_level_min: 70,
+        clipped_level_step: 15,
+        clipped_ratio_threshold: 0.1,
+        clipped_wait_frames: 300,
+        enable_clipping_predictor: true,
+        target_range_max_dbfs: -30,
+        target_range_min_dbfs: -50,
+        update_input_volume_wait_frames: 100,
+        speech_probability_threshold: 0.7,
+        speech_ratio_threshold: 0.6,
+    };
+    assert_eq!(Config::default(), original);
+}
+
+#[test]
+fn making_refuses_with_the_first_cause() {
+    let with = |change: fn(&mut Config)| {
+        let mut config = Config::default();
+        change(&mut config);
+        InputVolumeController::new(1, config).err()
+    };
+    for channels in [i32::MIN, 0, MAX_CHANNELS as i32 + 1, i32::MAX] {
+        assert_eq!(InputVolumeController::new(channels, Config { min_input_volume: -1, ..Config::default() }).err(), Some(Refusal::ChannelCount));
+    }
+    assert_eq!(with(|c| c.min_input_volume = -1), Some(Refusal::MinimumVolume));
+    assert_eq!(with(|c| c.clipped_level_min = 256), Some(Refusal::MinimumVolume));
+    assert_eq!(with(|c| c.clipped_level_step = 0), Some(Refusal::ClippedLevelStep));
+    assert_eq!(with(|c| c.clipped_wait_frames = 65536), Some(Refusal::WaitFrames));
+    assert_eq!(with(|c| c.update_input_volume_wait_frames = -1), Some(Refusal::WaitFrames));
+    assert_eq!(with(|c| c.target_range_max_dbfs = 31), Some(Refusal::TargetRange));
+    assert_eq!(with(|c| c.speech_probability_threshold = f32::NAN), Some(Refusal::SpeechThreshold));
+    assert_eq!(with(|c| c.speech_ratio_threshold = 1.5), Some(Refusal::SpeechThreshold));
+    assert_eq!(with(|c| c.clipped_ratio_threshold = f32::NAN), None);
+    assert_eq!(Refusal::SpeechThreshold.number(), 6);
+    assert_eq!(Refusal::ChannelCount.to_string(), "channel count not 1 to 8");
+}
+
+#[test]
+fn a_refused_frame_changes_nothing() {
+    let mut c = made(2);
+    let frame = [1000.0f32; 2 * MAX_SAMPLES_PER_CHANNEL];
+    c.analyze_input_audio(200, 480, &frame).unwrap();
+    for volume in [i32::MIN, -1, 256, i32::MAX] {
+        assert_eq!(c.analyze_input_audio(volume, 480, &frame), Err(Refusal::InputVolume));
+    }
+    for (samples, lent) in [(0, 0), (480, 959), (481, 960), (1, 960), (usize::MAX, 960), (usize::MAX / 2 + 1, 0)] {
+        assert_eq!(c.analyze_input_audio(100, samples, &frame[..lent]), Err(Refusal::FrameSize));
+    }
+    assert!(c.stored_record(0, 1).is_none());
+    assert_eq!(c.recommend_input_volume(0.0, None), Some(200));
+}
+
+#[test]
+fn every_channel_count_and_every_sample_is_taken() {
+    for channels in 1..=MAX_CHANNELS {
+        let mut c = made(channels as i32);
+        let odd = [f32::NAN, f32::INFINITY, f32::NEG_INFINITY, -0.0, f32::MIN_POSITIVE / 2.0, f32::MAX];
+        let frame: Vec<f32> = (0..channels).flat_map(|_| odd).collect();
+        for _ in 0..20 {
+            c.analyze_input_audio(128, odd.len(), &frame).unwrap();
+            let volume = c.recommend_input_volume(f32::NAN, Some(f32::NAN)).unwrap();
+            assert!((20..=255).contains(&volume));
+        }
+        assert!(c.stored_record(channels - 1, 0).is_some());
+        assert!(c.stored_record(channels, 0).is_none());
+    }
+}
+
+#[test]
+fn capture_off_repeats_the_volume() {
+    let mut c = made(1);
+    c.handle_capture_output_used_change(false);
+    c.analyze_input_audio(7, 1, &[32767.0]).unwrap();
+    assert_eq!(c.recommend_input_volume(1.0, Some(0.0)), Some(7));
+    assert_eq!(c.recommend_input_volume(1.0, Some(0.0)), Some(7));
+    assert!(c.stored_record(0, 0).is_none());
+    c.handle_capture_output_used_change(true);
+    assert!(c.recommend_input_volume(1.0, Some(0.0)).is_some());
+    assert_eq!(c.recommend_input_volume(1.0, Some(0.0)), None);
+}
+
+#[test]
+fn initialise_keeps_the_rings_and_forgets_the_pending_volume() {
+    let mut c = made(2);
+    c.analyze_input_audio(100, 3, &[3.0, -4.0, 0.0, 1.0, 2.0, -5.0]).unwrap();
+    c.initialize();
+    assert_eq!(c.recommend_input_volume(0.0, None), None);
+    let first = c.stored_record(0, 0).unwrap();
+    let second = c.stored_record(1, 0).unwrap();
+    assert_eq!((first.average, first.max), (25.0 / 3.0, 4.0));
+    assert_eq!((second.average, second.max), (10.0, 5.0));
+}
+
+#[test]
+fn a_copy_goes_its_own_way() {
+    let mut a = made(1);
+    a.analyze_input_audio(200, 1, &[0.0]).unwrap();
+    let mut b = a.clone();
+    b.analyze_input_audio(90, 1, &[0.0]).unwrap();
+    assert_eq!(a.recommend_input_volume(0.0, None), Some(200));
+    assert_eq!(b.recommend_input_volume(0.0, None), Some(90));
+}

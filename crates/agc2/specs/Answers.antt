@@ -1,0 +1,45 @@
+-- Document 01's answers in numbers: 0 or the refusal's number, with the values beside it, and 0 where there is none. Definitions only.
+use Prim.Native.Nat.{ℕ, zero, suc}
+use lib.IntN.{ℤ, pos}
+use lib.Ieee.{Float, binary32, ofBits}
+use Rattle.numbers.specs.Refusal.{numberOf}
+use Rattle.numbers.specs.declared.refusal.Outcome.{Outcome}
+use Rattle.numbers.specs.declared.refusal.Outcome.the-variants as Outcome
+use Rattle.clipping_predictor_level_buffer.specs.declared.Stored.{Stored}
+use Rattle.clipping_predictor_level_buffer.specs.declared.Stored.the-variants.{Record, Missing}
+use Rattle.mono_input_volume_controller.specs.declared.speech_level.SpeechLevel.{SpeechLevel}
+use Rattle.mono_input_volume_controller.specs.declared.speech_level.SpeechLevel.the-variants.{Absent, Dbfs}
+use Rattle.input_volume_controller.specs.Reply.{Reply, mark, refusal, volume, none, done}
+use Rattle.agc2.specs.declared.answers.Agc2Record.{Agc2Record}
+use Rattle.agc2.specs.declared.answers.FrameNumbers.{FrameNumbers}
+use Rattle.agc2.specs.declared.answers.VolumeNumbers.{VolumeNumbers}
+use Rattle.agc2.specs.Flag.{flagOf}
+
+abbrev pub outcomeNumber : Outcome → ℕ
+outcomeNumber Outcome.Accepted = 0
+outcomeNumber (Outcome.Refused cause) = numberOf cause
+
+-- "a frame's mark or refusal number"
+abbrev pub frameNumbers : Reply → FrameNumbers
+frameNumbers (mark near) = record { refusal = 0; near = flagOf near }
+frameNumbers (refusal n) = record { refusal = n; near = 0 }
+frameNumbers (volume v) = record { refusal = 0; near = 0 }
+frameNumbers none = record { refusal = 0; near = 0 }
+frameNumbers done = record { refusal = 0; near = 0 }
+
+-- "a recommendation's volume or none"
+abbrev pub volumeNumbers : Reply → VolumeNumbers
+volumeNumbers (mark near) = record { present = 0; volume = pos 0 }
+volumeNumbers (refusal n) = record { present = 0; volume = pos 0 }
+volumeNumbers (volume v) = record { present = 1; volume = v }
+volumeNumbers none = record { present = 0; volume = pos 0 }
+volumeNumbers done = record { present = 0; volume = pos 0 }
+
+abbrev pub recordOf : Stored → Agc2Record
+recordOf (Record l) = record { present = 1; average = l .average; max = l .max }
+recordOf Missing = record { present = 0; average = ofBits binary32 0; max = ofBits binary32 0 }
+
+-- "the speech level is either absent or a float": absent at 0
+unfoldable pub speechLevelOf : ℕ → Float → SpeechLevel
+speechLevelOf zero dbfs = Absent
+speechLevelOf (suc n) dbfs = Dbfs dbfs

@@ -1,0 +1,51 @@
+-- What the exported calls hand back: the state that the definition of a call says, and its reply in numbers. Definitions only.
+use mathlib.Core.Path.{_≡_}
+use mathlib.Core.List.{List}
+use Prim.Native.Nat.{ℕ}
+use lib.IntN.{ℤ, pos}
+use lib.Ieee.{Float}
+use Rattle.mono_input_volume_controller.specs.declared.config.Config.{Config}
+use Rattle.mono_input_volume_controller.specs.declared.speech_level.SpeechLevel.{SpeechLevel}
+use Rattle.input_volume_controller.specs.declared.volume_control.VolumeControl.{VolumeControl}
+use Rattle.input_volume_controller.specs.declared.InputVolumeController.{InputVolumeController}
+use Rattle.input_volume_controller.specs.Plain.{wholeControl}
+use Rattle.input_volume_controller.specs.Controller.{viewOf, Becomes, makingOf}
+use Rattle.input_volume_controller.specs.Reply.{Reply, Stepped}
+use Rattle.input_volume_controller.specs.Reply.{refusal as refused}
+use Rattle.input_volume_controller.specs.Calls.{Call, frame, recommendation, step, ControlDoes}
+use Rattle.agc2.specs.declared.answers.Agc2Controller.{Agc2Controller}
+use Rattle.agc2.specs.declared.answers.Agc2Control.{Agc2Control}
+use Rattle.agc2.specs.Whole.{wholeOf}
+use Rattle.agc2.specs.Answers.{outcomeNumber, frameNumbers, volumeNumbers}
+
+-- no recommendation has been answered since
+pub record Unanswered (c : Agc2Control) : Type 0 where
+  pub present : c .present ≡ 0
+  pub volume : c .volume ≡ pos 0
+
+pub record CreatedOf (channels : ℤ) (config : Config) (r : Agc2Controller) : Type 0 where
+  pub refusal : r .refusal ≡ outcomeNumber (makingOf channels config .answer)
+  pub near : r .near ≡ 0
+  pub unanswered : Unanswered (r .control)
+  pub becomes : Becomes (makingOf channels config .controller) (wholeOf r)
+
+-- a frame's step; a refused one hands the very controller back
+pub record FramedAs (self : InputVolumeController) (s : Stepped) (r : Agc2Controller) : Type 0 where
+  pub refusal : r .refusal ≡ frameNumbers (s .reply) .refusal
+  pub near : r .near ≡ frameNumbers (s .reply) .near
+  pub unanswered : Unanswered (r .control)
+  pub becomes : Becomes (s .state) (wholeOf r)
+  pub same : (n : ℕ) → s .reply ≡ refused n → wholeOf r ≡ self
+
+abbrev pub AnalyzedOf : InputVolumeController → ℤ → ℕ → List Float → Agc2Controller → Type 0
+AnalyzedOf self volume samples lent r = FramedAs self (step (viewOf self) (frame volume samples lent)) r
+
+-- a recommendation, whatever predictor stands beside the control
+pub record RecommendedAs (self : VolumeControl) (call : Call) (r : Agc2Control) : Type 0 where
+  pub says : Reply
+  pub does : ControlDoes self call says (wholeControl (r .control))
+  pub present : r .present ≡ volumeNumbers says .present
+  pub volume : r .volume ≡ volumeNumbers says .volume
+
+abbrev pub RecommendedOf : VolumeControl → Float → SpeechLevel → Agc2Control → Type 0
+RecommendedOf self probability level r = RecommendedAs self (recommendation probability level) r

@@ -1,0 +1,13 @@
+-- Sizes and places in bytes, as the C ABI of x86-64 has them. Definitions only.
+use Rattle.agc2.specs.declared.layout.Agc2Layout.{Agc2Layout}
+
+abbrev pub layout : Agc2Layout
+layout = record {
+  «control_size» = 328;
+  «control_state» = 8;
+  «controller_size» = 4672;
+  «controller_control» = 8;
+  «controller_predictor» = 336;
+  «config_size» = 44;
+  «record_size» = 12;
+}

@@ -1,0 +1,7 @@
+-- The definitions that the contracts of `agc2` cite.
+pub mod Flag
+pub mod Settings
+pub mod Answers
+pub mod Whole
+pub mod Calls
+pub mod Layout

@@ -1,0 +1,196 @@
+// The static library: the calls of `input_volume_controller` for C and Rust, with numbers for answers. A frame changes a controller in its place, and a
+// recommendation its control. The calls that leave the predictor alone take the control alone: the rings, which are most of a controller, are not copied for them.
+ghost use mathlib.Core.Path.{_≡_};
+ghost use mathlib.Core.List.{[]};
+ghost use lib.IntN.{pos};
+ghost use lib.ListN.{getD};
+ghost use Rattle.clipping_predictor_level_buffer.specs.Ring.{storedAt};
+ghost use Rattle.input_volume_controller.specs.Controller.{Good, viewOf};
+ghost use Rattle.input_volume_controller.specs.Control.{controlOf};
+ghost use Rattle.input_volume_controller.specs.Control.{Good as GoodControl};
+ghost use Rattle.input_volume_controller.specs.Plain.{wholeControl};
+ghost use Rattle.input_volume_controller.specs.Reply.{done};
+ghost use Rattle.input_volume_controller.specs.Calls.{initialise, captureSwitch, ControlDoes};
+ghost use Rattle.agc2.specs.Flag.{isSet};
+ghost use Rattle.agc2.specs.Settings.{configOf};
+ghost use Rattle.agc2.specs.Answers.{recordOf, speechLevelOf};
+ghost use Rattle.agc2.specs.Whole.{wholeOf, besideOf};
+ghost use Rattle.agc2.specs.Calls.{CreatedOf, AnalyzedOf, RecommendedOf};
+use crate::answers::Agc2Control;
+use crate::answers::Agc2Controller;
+use crate::answers::Agc2Record;
+use crate::settings::Agc2Config;
+use input_volume_controller::InputVolumeController;
+use input_volume_controller::plain::PlainControl;
+use input_volume_controller::plain::plain_control;
+use input_volume_controller::plain::plain_predictor;
+use input_volume_controller::plain::whole_control;
+use input_volume_controller::plain::whole_predictor;
+
+pub mod answers;
+pub mod flag;
+pub mod layout;
+pub mod settings;
+
+// The controller that the numbers stand for.
+fn whole(c: Agc2Controller) -> InputVolumeController
+    ensures { λ r. ⌜ r ≡ wholeOf c ⌝ }
+{
+    let answered = c.control;
+    let control = answered.control;
+    let predictor = c.predictor;
+    InputVolumeController {
+        control: whole_control(control),
+        predictor: whole_predictor(predictor),
+    }
+}
+
+// A controller in numbers, beside an answer.
+fn beside(refusal: u32, near: u32, c: InputVolumeController) -> Agc2Controller
+    ensures { λ r. ⌜ r ≡ besideOf refusal near c ⌝ }
+{
+    let control = c.control;
+    let predictor = c.predictor;
+    Agc2Controller {
+        refusal,
+        near,
+        control: Agc2Control {
+            present: 0,
+            volume: 0,
+            control: plain_control(control),
+        },
+        predictor: plain_predictor(predictor),
+    }
+}
+
+// Causes 1 to 6.
+#[no_mangle]
+pub extern "C" fn agc2_new_by_value(num_capture_channels: i32, config: Agc2Config) -> Agc2Controller
+    ensures { λ r. ⌜ CreatedOf «num_capture_channels» (configOf config) r ⌝ }
+{
+    let made = InputVolumeController::new(num_capture_channels, settings::config_of(config));
+    let answer = made.answer;
+    let controller = made.controller;
+    beside(answers::outcome_number(answer), 0, controller)
+}
+
+#[no_mangle]
+pub extern "C" fn agc2_initialize_by_value(control: PlainControl) -> PlainControl
+    requires { ⌜ GoodControl (wholeControl control) ⌝ }
+    ensures { λ r. ⌜ ControlDoes (wholeControl control) initialise done (wholeControl r) ⌝ }
+{
+    plain_control(whole_control(control).initialize())
+}
+
+// Off at 0, and on at any other number.
+#[no_mangle]
+pub extern "C" fn agc2_handle_capture_output_used_change_by_value(
+    control: PlainControl,
+    capture_output_used: u32,
+) -> PlainControl
+    requires { ⌜ GoodControl (wholeControl control) ⌝ }
+    ensures { λ r. ⌜ ControlDoes (wholeControl control) (captureSwitch (isSet «capture_output_used»)) done (wholeControl r) ⌝ }
+{
+    let on = flag::is_set(capture_output_used);
+    plain_control(whole_control(control).handle_capture_output_used_change(on))
+}
+
+// A frame, with the answer to the one before it still beside the controller.
+fn analyzed(
+    before: Agc2Controller,
+    applied_input_volume: i32,
+    samples_per_channel: usize,
+    samples: &[f32],
+) -> Agc2Controller
+    requires { ⌜ Good (wholeOf before) ⌝ }
+    ensures { λ r. ⌜ AnalyzedOf (wholeOf before) «applied_input_volume» «samples_per_channel» (now (samples .entry)) r ⌝ }
+{
+    let c = whole(before);
+    let analyzed = c.analyze_input_audio(applied_input_volume, samples_per_channel, samples);
+    let answer = analyzed.answer;
+    let handed = analyzed.controller;
+    let numbers = answers::frame_numbers(answer);
+    beside(numbers.refusal, numbers.near, handed)
+}
+
+// Causes 8 and 9.
+#[no_mangle]
+pub extern "C" fn agc2_analyze_input_audio_into(
+    controller: &mut Agc2Controller,
+    applied_input_volume: i32,
+    samples_per_channel: usize,
+    samples: &[f32],
+)
+    requires { ⌜ Good (wholeOf (now controller)) ⌝ }
+    ensures { λ _. ⌜ AnalyzedOf (wholeOf (now (controller .entry))) «applied_input_volume» «samples_per_channel» (now (samples .entry)) (now (controller .exit)) ⌝ }
+{
+    *controller = analyzed(
+        *controller,
+        applied_input_volume,
+        samples_per_channel,
+        samples,
+    );
+}
+
+// A recommendation, with the answer to the one before it still beside the control.
+fn recommended(
+    before: Agc2Control,
+    speech_probability: f32,
+    has_speech_level: u32,
+    speech_level_dbfs: f32,
+) -> Agc2Control
+    requires { ⌜ GoodControl (wholeControl (before .control)) ⌝ }
+    ensures { λ r. ⌜ RecommendedOf (wholeControl (before .control)) «speech_probability» (speechLevelOf «has_speech_level» «speech_level_dbfs») r ⌝ }
+{
+    let control = before.control;
+    let level = answers::speech_level_of(has_speech_level, speech_level_dbfs);
+    let recommended = whole_control(control).recommend_input_volume(speech_probability, level);
+    let answer = recommended.answer;
+    let handed = recommended.control;
+    let numbers = answers::volume_numbers(answer);
+    Agc2Control {
+        present: numbers.present,
+        volume: numbers.volume,
+        control: plain_control(handed),
+    }
+}
+
+// No speech level where its flag is 0.
+#[no_mangle]
+pub extern "C" fn agc2_recommend_input_volume_into(
+    control: &mut Agc2Control,
+    speech_probability: f32,
+    has_speech_level: u32,
+    speech_level_dbfs: f32,
+)
+    requires { ⌜ GoodControl (wholeControl (now control .control)) ⌝ }
+    ensures { λ _. ⌜ RecommendedOf (wholeControl (now (control .entry) .control)) «speech_probability» (speechLevelOf «has_speech_level» «speech_level_dbfs») (now (control .exit)) ⌝ }
+{
+    *control = recommended(
+        *control,
+        speech_probability,
+        has_speech_level,
+        speech_level_dbfs,
+    );
+}
+
+// The controller's volume.
+#[no_mangle]
+pub extern "C" fn agc2_recommended_input_volume_by_value(control: PlainControl) -> i32
+    ensures { λ r. ⌜ r ≡ pos (controlOf (wholeControl control) .volume) ⌝ }
+{
+    control.volume as i32
+}
+
+// The i-th record that a channel's ring stores, the newest being the 0th.
+#[no_mangle]
+pub extern "C" fn agc2_stored_record_by_value(
+    controller: Agc2Controller,
+    channel: usize,
+    i: usize,
+) -> Agc2Record
+    requires { ⌜ Good (wholeOf controller) ⌝ }
+    ensures { λ r. ⌜ r ≡ recordOf (storedAt (getD (viewOf (wholeOf controller) .predictor .rings) channel []) i) ⌝ }
+{
+    answers::record_of(whole(controller).stored_record(channel, i))
+}

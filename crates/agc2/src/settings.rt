@@ -1,0 +1,67 @@
+// The settings as C has them.
+ghost use mathlib.Core.Path.{_≡_};
+ghost use Rattle.mono_input_volume_controller.specs.Config.{defaults};
+ghost use Rattle.agc2.specs.Settings.{configOf, inNumbers};
+use crate::flag::flag_of;
+use crate::flag::is_set;
+use mono_input_volume_controller::config::Config;
+
+// Any bits. The predictor is on unless its number is 0.
+#[repr(C)]
+pub struct Agc2Config {
+    pub min_input_volume: i32,
+    pub clipped_level_min: i32,
+    pub clipped_level_step: i32,
+    pub clipped_ratio_threshold: f32,
+    pub clipped_wait_frames: i32,
+    pub enable_clipping_predictor: u32,
+    pub target_range_max_dbfs: i32,
+    pub target_range_min_dbfs: i32,
+    pub update_input_volume_wait_frames: i32,
+    pub speech_probability_threshold: f32,
+    pub speech_ratio_threshold: f32,
+}
+
+pub fn config_of(c: Agc2Config) -> Config
+    ensures { λ r. ⌜ r ≡ configOf c ⌝ }
+{
+    Config {
+        min_input_volume: c.min_input_volume,
+        clipped_level_min: c.clipped_level_min,
+        clipped_level_step: c.clipped_level_step,
+        clipped_ratio_threshold: c.clipped_ratio_threshold,
+        clipped_wait_frames: c.clipped_wait_frames,
+        enable_clipping_predictor: is_set(c.enable_clipping_predictor),
+        target_range_max_dbfs: c.target_range_max_dbfs,
+        target_range_min_dbfs: c.target_range_min_dbfs,
+        update_input_volume_wait_frames: c.update_input_volume_wait_frames,
+        speech_probability_threshold: c.speech_probability_threshold,
+        speech_ratio_threshold: c.speech_ratio_threshold,
+    }
+}
+
+fn in_numbers(c: Config) -> Agc2Config
+    ensures { λ r. ⌜ r ≡ inNumbers c ⌝ }
+{
+    Agc2Config {
+        min_input_volume: c.min_input_volume,
+        clipped_level_min: c.clipped_level_min,
+        clipped_level_step: c.clipped_level_step,
+        clipped_ratio_threshold: c.clipped_ratio_threshold,
+        clipped_wait_frames: c.clipped_wait_frames,
+        enable_clipping_predictor: flag_of(c.enable_clipping_predictor),
+        target_range_max_dbfs: c.target_range_max_dbfs,
+        target_range_min_dbfs: c.target_range_min_dbfs,
+        update_input_volume_wait_frames: c.update_input_volume_wait_frames,
+        speech_probability_threshold: c.speech_probability_threshold,
+        speech_ratio_threshold: c.speech_ratio_threshold,
+    }
+}
+
+// The source's default settings.
+#[no_mangle]
+pub extern "C" fn agc2_default_config() -> Agc2Config
+    ensures { λ r. ⌜ r ≡ inNumbers defaults ⌝ }
+{
+    in_numbers(mono_input_volume_controller::config::default_config())
+}

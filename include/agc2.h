@@ -1,0 +1,192 @@
+/* The input volume controller of WebRTC's AGC2, over a library in which every function is proved to meet its contract.
+ *
+ * Link target/staticlib/libagc2.a, which `rt staticlib agc2` writes (x86-64, System V ABI; it needs memcpy and memset and nothing else).
+ *
+ *     agc2_controller controller;
+ *     uint32_t refusal = agc2_new(&controller, 1, agc2_default_config());
+ *     refusal = agc2_analyze_input_audio(&controller, volume, 480, samples, 480);
+ *     int32_t recommended;
+ *     if (agc2_recommend_input_volume(&controller, 0.9f, &level, &recommended)) { .. apply it .. }
+ *
+ * A call answers 0, or the number of its refusal (agc2_words), and a refused call leaves the controller as it was. No argument is out of bounds but
+ * two kinds: a pointer must be valid, with as many samples behind it as the count says, none of them within the controller; and a controller
+ * must be one that agc2_new accepted and that nobody else wrote to. A controller has no pointer in it and may be copied and moved; two threads must not use one at once. */
+#ifndef AGC2_H
+#define AGC2_H
+
+#include <stddef.h>
+#include <stdint.h>
+
+#ifdef __cplusplus
+extern "C" {
+#endif
+
+enum { AGC2_MAX_CHANNELS = 8, AGC2_MAX_SAMPLES_PER_CHANNEL = 480 };
+
+/* The refusals of these calls: agc2_new has 1 to 6, agc2_analyze_input_audio 8 and 9. */
+enum {
+    AGC2_ACCEPTED = 0,
+    AGC2_CHANNEL_COUNT = 1,
+    AGC2_MINIMUM_VOLUME = 2,
+    AGC2_CLIPPED_LEVEL_STEP = 3,
+    AGC2_WAIT_FRAMES = 4,
+    AGC2_TARGET_RANGE = 5,
+    AGC2_SPEECH_THRESHOLD = 6,
+    AGC2_INPUT_VOLUME = 8,
+    AGC2_FRAME_SIZE = 9
+};
+
+/* The settings, any bits; agc2_default_config has the original's. The predictor is off at 0, and on at any other number. */
+typedef struct agc2_config {
+    int32_t min_input_volume;
+    int32_t clipped_level_min;
+    int32_t clipped_level_step;
+    float clipped_ratio_threshold;
+    int32_t clipped_wait_frames;
+    uint32_t enable_clipping_predictor;
+    int32_t target_range_max_dbfs;
+    int32_t target_range_min_dbfs;
+    int32_t update_input_volume_wait_frames;
+    float speech_probability_threshold;
+    float speech_ratio_threshold;
+} agc2_config;
+
+/* What a channel's ring keeps of a frame: 1 with the mean square and the largest magnitude, or 0 and zeros where there is none. */
+typedef struct agc2_record {
+    uint32_t present;
+    float average;
+    float max;
+} agc2_record;
+
+/* ---- a controller; the words in it belong to the library */
+
+typedef struct agc2_control_state {
+    uint64_t words[40];
+} agc2_control_state;
+
+typedef struct agc2_predictor_state {
+    uint64_t words[542];
+} agc2_predictor_state;
+
+/* All but the predictor, with the answer to the last recommendation: 1 and the volume, or 0 and 0 for none. */
+typedef struct agc2_control {
+    uint32_t present;
+    int32_t volume;
+    agc2_control_state state;
+} agc2_control;
+
+/* With the answer to its making or to its last frame: 0 or the refusal's number, and 1 if the frame is marked near. */
+typedef struct agc2_controller {
+    uint32_t refusal;
+    uint32_t near;
+    agc2_control control;
+    agc2_predictor_state predictor;
+} agc2_controller;
+
+/* ---- the functions of the archive; callers use those below */
+
+/* Sizes, and the places of what stands within, in bytes, as the archive has them. */
+typedef struct agc2_layout_of {
+    uint32_t control_size;
+    uint32_t control_state;
+    uint32_t controller_size;
+    uint32_t controller_control;
+    uint32_t controller_predictor;
+    uint32_t config_size;
+    uint32_t record_size;
+} agc2_layout_of;
+
+agc2_config agc2_default_config(void);
+agc2_layout_of agc2_layout(void);
+agc2_controller agc2_new_by_value(int32_t num_capture_channels, agc2_config config);
+agc2_control_state agc2_initialize_by_value(agc2_control_state control);
+agc2_control_state agc2_handle_capture_output_used_change_by_value(agc2_control_state control, uint32_t capture_output_used);
+void agc2_analyze_input_audio_into(agc2_controller *controller, int32_t applied_input_volume, size_t samples_per_channel, const float *samples, size_t count);
+void agc2_recommend_input_volume_into(agc2_control *control, float speech_probability, uint32_t has_speech_level, float speech_level_dbfs);
+int32_t agc2_recommended_input_volume_by_value(agc2_control_state control);
+agc2_record agc2_stored_record_by_value(agc2_controller controller, size_t channel, size_t i);
+
+/* ---- the calls */
+
+/* A controller of 1 to 8 channels, or a refusal, 1 to 6, which leaves *controller unwritten. */
+static inline uint32_t agc2_new(agc2_controller *controller, int32_t num_capture_channels, agc2_config config) {
+    agc2_controller made = agc2_new_by_value(num_capture_channels, config);
+    if (made.refusal == AGC2_ACCEPTED) {
+        *controller = made;
+    }
+    return made.refusal;
+}
+
+/* Starts anew, but keeps the rings, the startup, the volumes and the wait after clipping. */
+static inline void agc2_initialize(agc2_controller *controller) {
+    controller->control.state = agc2_initialize_by_value(controller->control.state);
+}
+
+/* While the captured sound is not used (0), frames only set the volume and recommendations repeat it. */
+static inline void agc2_handle_capture_output_used_change(agc2_controller *controller, uint32_t capture_output_used) {
+    controller->control.state = agc2_handle_capture_output_used_change_by_value(controller->control.state, capture_output_used);
+}
+
+/* A frame, captured at the volume that is applied: the channels one after another, each of samples_per_channel samples on the 16-bit
+ * scale, count in all. Refuses with 8 and 9. */
+static inline uint32_t agc2_analyze_input_audio(agc2_controller *controller, int32_t applied_input_volume, size_t samples_per_channel, const float *samples, size_t count) {
+    agc2_analyze_input_audio_into(controller, applied_input_volume, samples_per_channel, samples, count);
+    return controller->refusal;
+}
+
+/* 1 if an estimate of the last frame compared two levels so close that the original, which rounds logarithms, may have decided otherwise, else 0. */
+static inline uint32_t agc2_near(const agc2_controller *controller) {
+    return controller->near;
+}
+
+/* 1 with the volume to apply in *volume; or 0, with *volume as it was, where no frame came since the last recommendation. A null speech
+ * level is none. */
+static inline uint32_t agc2_recommend_input_volume(agc2_controller *controller, float speech_probability, const float *speech_level_dbfs, int32_t *volume) {
+    agc2_recommend_input_volume_into(&controller->control, speech_probability, speech_level_dbfs != NULL, speech_level_dbfs != NULL ? *speech_level_dbfs : 0.0f);
+    if (controller->control.present != 0) {
+        *volume = controller->control.volume;
+    }
+    return controller->control.present;
+}
+
+/* The controller's volume. */
+static inline int32_t agc2_recommended_input_volume(const agc2_controller *controller) {
+    return agc2_recommended_input_volume_by_value(controller->control.state);
+}
+
+/* The i-th record that a channel's ring stores, the newest being the 0th. */
+static inline agc2_record agc2_stored_record(const agc2_controller *controller, size_t channel, size_t i) {
+    return agc2_stored_record_by_value(*controller, channel, i);
+}
+
+/* A refusal in words. */
+static inline const char *agc2_words(uint32_t refusal) {
+    switch (refusal) {
+    case AGC2_ACCEPTED:
+        return "accepted";
+    case AGC2_CHANNEL_COUNT:
+        return "channel count not 1 to 8";
+    case AGC2_MINIMUM_VOLUME:
+        return "min_input_volume or clipped_level_min not 0 to 255";
+    case AGC2_CLIPPED_LEVEL_STEP:
+        return "clipped_level_step not 1 to 255";
+    case AGC2_WAIT_FRAMES:
+        return "clipped_wait_frames or update_input_volume_wait_frames not 0 to 65,535";
+    case AGC2_TARGET_RANGE:
+        return "a target not -90 to 30 dBFS";
+    case AGC2_SPEECH_THRESHOLD:
+        return "speech probability or speech ratio threshold not 0 to 1, or not a number";
+    case AGC2_INPUT_VOLUME:
+        return "a volume not 0 to 255";
+    case AGC2_FRAME_SIZE:
+        return "samples per channel not 1 to 480, or lent samples not channels \xc3\x97 that";
+    default:
+        return "no refusal of this library";
+    }
+}
+
+#ifdef __cplusplus
+}
+#endif
+
+#endif
