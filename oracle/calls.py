@@ -187,4 +187,5 @@ def main():
     sys.exit(counts["differ"] != 0)
 
 
-main()
+if __name__ == "__main__":
+    main()

@@ -10,9 +10,10 @@ and the first thing that no longer holds is printed. Exits with 1 if an edit bre
 import os
 import re
 import shutil
-import subprocess
 import sys
 import tempfile
+
+from wrong import copy_tree, refusals, replaced
 
 IVC = "crates/input_volume_controller/"
 MONO = "crates/mono_input_volume_controller/"
@@ -51,10 +52,8 @@ def types_alone(text):
     return "\n".join(out) + "\n"
 
 
-def copy_of_tree(root):
-    shutil.copytree("crates", root + "/crates")
-    shutil.copy("crates.txt", root)
-    os.chdir(root)
+def definitions_alone():
+    """The controller's crate keeps its types, its definitions and two files of laws about them."""
     for name in os.listdir(IVC + "src"):
         path = IVC + "src/" + name
         with open(path) as f:
@@ -71,36 +70,18 @@ def copy_of_tree(root):
         f.write("pub mod Clipped\npub mod Ratios\n")
 
 
-def check():
-    """What `rt dev claims` prints, and the crate whose check failed, if one did."""
-    out = subprocess.run(["rt", "dev", "claims"], stdout=subprocess.PIPE, stderr=subprocess.STDOUT, env={**os.environ, "RT_CUT": "0"}).stdout.decode(errors="replace")
-    failed = re.search(r"rt: (\w+) NOT PROVED|rt: FAILED: (\w+)", out)
-    wrong = [line for line in out.split("\n") if re.search(r"crates/claims/\S+: error", line)]
-    return out, failed, wrong
-
-
 def main():
-    root = sys.argv[1] if len(sys.argv) > 1 else tempfile.mkdtemp()
-    os.makedirs(root, exist_ok=True)
-    copy_of_tree(root)
-    out, failed, wrong = check()
-    if failed or wrong or "logic=proved" not in out:
-        sys.exit("the copy itself is not proved:\n" + out[-2000:])
+    copy_tree(sys.argv[1] if len(sys.argv) > 1 else tempfile.mkdtemp())
+    definitions_alone()
+    proved, wrong = refusals("claims", "crates/claims/")
+    if not proved:
+        sys.exit("the copy itself is not proved:\n" + "\n".join(wrong))
     survived = 0
     for name, changes in EDITS:
-        kept = {}
-        for path, old, new in changes:
-            with open(path) as f:
-                kept.setdefault(path, f.read())
-            assert kept[path].count(old) == 1, (path, old)
-            with open(path, "w") as f:
-                f.write(kept[path].replace(old, new))
-        _, _, wrong = check()
-        print(f"{name}: {'breaks ' + re.sub(r'^.*crates/claims/', '', wrong[0])[:300] if wrong else 'BREAKS NO CLAIM'}")
+        with replaced(changes):
+            _, wrong = refusals("claims", "crates/claims/")
+        print(f"{name}: {'breaks ' + wrong[0] if wrong else 'BREAKS NO CLAIM'}", flush=True)
         survived += not wrong
-        for path, text in kept.items():
-            with open(path, "w") as f:
-                f.write(text)
     sys.exit(survived != 0)
 
 
