@@ -6,6 +6,9 @@ use Rattle.claims.proofs.Below.{refused-below}
 use Rattle.claims.proofs.Bounds.{bounds}
 use Rattle.claims.proofs.Broken.{broken-leaves}
 use Rattle.claims.proofs.Levels.{levels-within-two}
+use Rattle.claims.proofs.Marked.{marked-exactly}
+use Rattle.claims.proofs.Unmarked.{unmarked-is-exact}
+use Rattle.claims.proofs.UnmarkedRun.{unmarked-run-is-exact}
 use Rattle.claims.proofs.TwoPasts.{two-pasts}
 use Rattle.claims.proofs.InCode.{two-pasts-in-code}
 use Rattle.claims.proofs.EveryMode.{two-pasts-in-every-mode}
@@ -26,6 +29,9 @@ claims = record {
   bounds = bounds;
   broken = broken-leaves;
   levels = levels-within-two;
+  marked = marked-exactly;
+  unmarked = unmarked-is-exact;
+  unmarked-run = unmarked-run-is-exact;
   two-pasts = two-pasts;
   two-pasts-in-code = two-pasts-in-code;
   two-pasts-in-every-mode = two-pasts-in-every-mode;

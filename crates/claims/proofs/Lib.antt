@@ -17,6 +17,11 @@ pub mod Stored
 pub mod Broken
 pub mod OneFewer
 pub mod Levels
+pub mod Differences
+pub mod Apart
+pub mod ExactCeiling
+pub mod Unmarked
+pub mod UnmarkedRun
 pub mod GainTable
 pub mod Starred
 pub mod Lists
@@ -30,6 +35,7 @@ pub mod QuietFrames
 pub mod Calm
 pub mod Closed
 pub mod Runs
+pub mod Marked
 pub mod Closing
 pub mod EveryMode
 pub mod Loudest

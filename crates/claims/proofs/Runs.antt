@@ -53,7 +53,7 @@ skip n calls rest c e t = after-append calls rest c ∙ ap (λ (x : Controller).
 
 -- ---- accepted frames and recommendations
 
-number-is : (b : Bool) (n : ℕ) → T (isNumber (numberIf b n)) → numberIf b n ≡ Number n
+pub number-is : (b : Bool) (n : ℕ) → T (isNumber (numberIf b n)) → numberIf b n ≡ Number n
 number-is true n t = refl
 number-is false n t = absurd t
 

@@ -8,6 +8,9 @@ use Rattle.claims.specs.RefusedBelow.{RefusedBelow}
 use Rattle.claims.specs.Bounds.{Bounds}
 use Rattle.claims.specs.Broken.{BrokenLeaves}
 use Rattle.claims.specs.Levels.{LevelsWithinTwo}
+use Rattle.claims.specs.Marked.{MarkedExactly}
+use Rattle.claims.specs.Unmarked.{UnmarkedIsExact}
+use Rattle.claims.specs.ExactRun.{UnmarkedRunIsExact}
 use Rattle.claims.specs.TwoPasts.{TwoPasts, TwoPastsInEveryMode}
 use Rattle.claims.specs.InCode.{TwoPastsInCode}
 use Rattle.claims.specs.Sharp.{LeadInsExist, AcceptedIsNotRefused, TwoFewerAreTooFew}
@@ -30,6 +33,11 @@ pub record Claims : Type 0 where
   pub broken : BrokenLeaves
   -- the level functions are within two thousandths
   pub levels : LevelsWithinTwo
+  -- an estimate is marked exactly if a comparison that it reached was near, a frame exactly if one of its estimates is, a recommendation never
+  pub marked : MarkedExactly
+  -- an estimate without a near mark decides as exact logarithms would, and a run without one goes as they would have it go
+  pub unmarked : UnmarkedIsExact
+  pub unmarked-run : UnmarkedRunIsExact
   -- two controllers with equal settings cannot be told apart after the same lead-in, whatever their pasts: of the definitions, of the code, and for every predictor
   pub two-pasts : TwoPasts
   pub two-pasts-in-code : TwoPastsInCode

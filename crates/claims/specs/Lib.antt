@@ -8,6 +8,10 @@ pub mod Bounds
 pub mod Broken
 pub mod Equal
 pub mod Levels
+pub mod Marked
+pub mod Exact
+pub mod Unmarked
+pub mod ExactRun
 pub mod GainTable
 pub mod Starred
 pub mod LeadIn

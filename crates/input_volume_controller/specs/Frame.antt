@@ -16,7 +16,7 @@ use Rattle.clipping_predictor.specs.declared.modes.Asked.{Asked}
 use Rattle.clipping_predictor.specs.declared.modes.Estimated.{Estimated}
 use Rattle.clipping_predictor.specs.declared.modes.Question.{Question}
 use Rattle.clipping_predictor.specs.declared.modes.Question.the-variants as Question
-use Rattle.clipping_predictor.specs.Predictor.{frameFits, enteredIf, emptied}
+use Rattle.clipping_predictor.specs.Predictor.{Predictor, frameFits, enteredIf, emptied}
 use Rattle.clipping_predictor.specs.AllRings.{predictedBy}
 use Rattle.input_volume_controller.specs.ClippedRatio.{clippedRatio}
 use Rattle.mono_input_volume_controller.specs.MonoState.{maxInputVolume}
@@ -45,32 +45,48 @@ handleIf false step c = c
 abbrev pub handled : Bool → Estimated → Controller → Stepped
 handled clipped e c = record { reply = mark (e .near); state = handleIf (clipped || ltb 0 (e .drop)) (max (c .control .settings .step) (e .drop)) c }
 
--- "one within the wait then only counts"
-abbrev pub unlessWaiting : Bool → Bool → Controller → Stepped
-unlessWaiting true clipped c = record { reply = mark false; state = record { control = oneFrameMore (c .control); predictor = c .predictor } }
-unlessWaiting false clipped c = handled clipped (predictedBy (askedOf (c .control)) (c .predictor)) c
-
--- "With capture on every frame first enters the rings"; "With capture off, frames only set the volume"
-abbrev pub ifUsed : Bool → ℕ → List Float → Controller → Stepped
-ifUsed true samples lent c =
-    unlessWaiting (ltb (c .control .since) (c .control .settings .«clipped_wait»))
-    (lt (c .control .settings .«clipped_ratio») (clippedRatio (length (c .control .channels)) samples lent))
-    (record { control = c .control; predictor = enteredIf true samples lent (c .predictor) })
-ifUsed false samples lent c = record { reply = mark false; state = c }
-
 -- its volume is applied
 abbrev pub withVolumeApplied : ℕ → Controller → Controller
 withVolumeApplied volume c = record { control = withAppliedInputVolume volume (c .control); predictor = c .predictor }
 
--- causes 8 and 9, in that order, hand the state back
+-- a refusal hands the state back
 abbrev pub refusedWith : Refusal → Controller → Stepped
 refusedWith cause c = record { reply = refusal (numberOf cause); state = c }
 
+-- The rest takes the estimates of all rings as a parameter: `predictedBy` is what the code answers, and what exact logarithms would say has the same place (`claims`, specs/ExactRun.antt).
+module _ (predicted : Asked → Predictor → Estimated) where
+  -- "one within the wait then only counts"
+  abbrev pub unlessWaitingBy : Bool → Bool → Controller → Stepped
+  unlessWaitingBy true clipped c = record { reply = mark false; state = record { control = oneFrameMore (c .control); predictor = c .predictor } }
+  unlessWaitingBy false clipped c = handled clipped (predicted (askedOf (c .control)) (c .predictor)) c
+
+  -- "With capture on every frame first enters the rings"; "With capture off, frames only set the volume"
+  abbrev pub ifUsedBy : Bool → ℕ → List Float → Controller → Stepped
+  ifUsedBy true samples lent c =
+      unlessWaitingBy (ltb (c .control .since) (c .control .settings .«clipped_wait»))
+      (lt (c .control .settings .«clipped_ratio») (clippedRatio (length (c .control .channels)) samples lent))
+      (record { control = c .control; predictor = enteredIf true samples lent (c .predictor) })
+  ifUsedBy false samples lent c = record { reply = mark false; state = c }
+
+  -- causes 8 and 9, in that order, hand the state back
+  abbrev pub unlessRefusedBy : Natural → Bool → ℕ → List Float → Controller → Stepped
+  unlessRefusedBy Outside fits samples lent c = refusedWith InputVolume c
+  unlessRefusedBy (Number volume) false samples lent c = refusedWith FrameSize c
+  unlessRefusedBy (Number volume) true samples lent c = ifUsedBy (c .control .used) samples lent (withVolumeApplied volume c)
+
+  abbrev pub frameBy : ℤ → ℕ → List Float → Controller → Stepped
+  frameBy volume samples lent c = unlessRefusedBy (withinOf 0 maxInputVolume volume) (frameFits (length (c .control .channels)) samples lent) samples lent c
+
+-- with the estimates of the rings
+abbrev pub unlessWaiting : Bool → Bool → Controller → Stepped
+unlessWaiting = unlessWaitingBy predictedBy
+
+abbrev pub ifUsed : Bool → ℕ → List Float → Controller → Stepped
+ifUsed = ifUsedBy predictedBy
+
 abbrev pub unlessRefused : Natural → Bool → ℕ → List Float → Controller → Stepped
-unlessRefused Outside fits samples lent c = refusedWith InputVolume c
-unlessRefused (Number volume) false samples lent c = refusedWith FrameSize c
-unlessRefused (Number volume) true samples lent c = ifUsed (c .control .used) samples lent (withVolumeApplied volume c)
+unlessRefused = unlessRefusedBy predictedBy
 
 unfoldable pub analyzeInputAudio : ℤ → ℕ → List Float → Controller → Stepped
 unfolding predictedBy
-analyzeInputAudio volume samples lent c = unlessRefused (withinOf 0 maxInputVolume volume) (frameFits (length (c .control .channels)) samples lent) samples lent c
+analyzeInputAudio = frameBy predictedBy

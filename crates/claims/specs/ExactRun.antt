@@ -1,0 +1,75 @@
+-- A run in which no frame is marked near is the run that exact logarithms lead to: every answer and every state is the same. So what rounded levels may change starts with the first marked
+-- frame. It reaches the code by the contracts of the calls, as the other claims of runs do (Run.antt). Definitions only.
+use mathlib.Core.Path.{_≡_}
+use mathlib.Core.Bool.{false}
+use mathlib.Core.List.{List, [], _∷_, map, foldl}
+use Prim.Native.Nat.{ℕ, max}
+use lib.Dec.{T}
+use lib.IntN.{ℤ}
+use lib.Ieee.{Float, binary32, fits}
+use Rattle.clipping_predictor_level_buffer.specs.declared.level.Level.{Level}
+use Rattle.clipping_predictor.specs.declared.modes.Asked.{Asked}
+use Rattle.clipping_predictor.specs.declared.modes.Estimated.{Estimated}
+use Rattle.clipping_predictor.specs.Predictor.{Predictor}
+use Rattle.mono_input_volume_controller.specs.declared.config.Config.{Config}
+use Rattle.input_volume_controller.specs.Controller.{Controller, makingOf}
+use Rattle.input_volume_controller.specs.Reply.{Reply, mark, refusal, volume, none, done, Stepped}
+use Rattle.input_volume_controller.specs.Frame.{frameBy}
+use Rattle.input_volume_controller.specs.Calls.{Call, frame, recommendation, initialise, captureSwitch, step, after, Answer, answerOf, answers}
+use Rattle.claims.specs.Exact.{exactDrop}
+use Rattle.claims.specs.Unmarked.{Every, PeakFits}
+
+-- ---- a frame with exact logarithms
+
+-- "the largest predicted step", and no mark
+unfoldable pub exactPredicted : Asked → Predictor → Estimated
+exactPredicted a p = record { drop = foldl max 0 (map (λ (records : List Level). exactDrop (p .settings) records a) (p .rings)); near = false }
+
+-- the frame's own definition, with these estimates
+unfoldable pub exactFrame : ℤ → ℕ → List Float → Controller → Stepped
+exactFrame = frameBy exactPredicted
+
+-- no other call compares levels
+abbrev pub exactStep : Controller → Call → Stepped
+exactStep c (frame applied samples lent) = exactFrame applied samples lent c
+exactStep c (recommendation probability level) = step c (recommendation probability level)
+exactStep c initialise = step c initialise
+exactStep c (captureSwitch on) = step c (captureSwitch on)
+
+unfoldable pub exactAfter : Controller → List Call → Controller
+exactAfter c [] = c
+exactAfter c (call ∷ calls) = exactAfter (exactStep c call .state) calls
+
+unfoldable pub exactAnswers : Controller → List Call → List Answer
+exactAnswers c [] = []
+exactAnswers c (call ∷ calls) = answerOf (exactStep c call) ∷ exactAnswers (exactStep c call .state) calls
+
+-- ---- what is asked of the calls
+
+-- the samples are 32-bit floats
+abbrev pub CallFits : Call → Type 0
+CallFits (frame applied samples lent) = Every (λ (x : Float). T (fits binary32 x)) lent
+CallFits (recommendation probability level) = Unit {0}
+CallFits initialise = Unit {0}
+CallFits (captureSwitch on) = Unit {0}
+
+-- a reply that is no near mark
+abbrev pub NotNear : Reply → Type 0
+NotNear (mark near) = near ≡ false
+NotNear (refusal number) = Unit {0}
+NotNear (volume z) = Unit {0}
+NotNear none = Unit {0}
+NotNear done = Unit {0}
+
+abbrev pub Unmarked : Answer → Type 0
+Unmarked a = NotNear (a .reply)
+
+-- the answers and the last state are those that exact logarithms lead to
+pub record SameAsExact (c : Controller) (calls : List Call) : Type 0 where
+  pub answers-are : answers c calls ≡ exactAnswers c calls
+  pub state-is : after c calls ≡ exactAfter c calls
+
+-- THE CLAIM, for a controller whose rings hold 32-bit floats, and so for every one that is made
+pub record UnmarkedRunIsExact : Type 0 where
+  pub from : (c : Controller) (calls : List Call) → Every (Every PeakFits) (c .predictor .rings) → Every CallFits calls → Every Unmarked (answers c calls) → SameAsExact c calls
+  pub made : (channels : ℤ) (config : Config) (calls : List Call) → Every CallFits calls → Every Unmarked (answers (makingOf channels config .controller) calls) → SameAsExact (makingOf channels config .controller) calls
