@@ -73,6 +73,7 @@ framed {r} {s} {c} {volume} {samples} {lent} a {n} w f e h =
     subst (λ (x : InputVolumeController). AnalyzedOf x volume samples lent r) w
     (subst (λ (x : Agc2Controller). AnalyzedOf c volume samples lent x) (sym e)
     (record {
+      typed = h .does .typed;
       refusal = ap (λ (x : FrameNumbers). x .refusal) (f ∙ ap frameNumbers (h .does .reply));
       near = ap (λ (x : FrameNumbers). x .near) (f ∙ ap frameNumbers (h .does .reply));
       unanswered = record { present = refl; volume = refl };

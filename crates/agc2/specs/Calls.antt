@@ -12,7 +12,7 @@ use Rattle.input_volume_controller.specs.Plain.{wholeControl}
 use Rattle.input_volume_controller.specs.Controller.{viewOf, Becomes, makingOf}
 use Rattle.input_volume_controller.specs.Reply.{Reply, Stepped}
 use Rattle.input_volume_controller.specs.Reply.{refusal as refused}
-use Rattle.input_volume_controller.specs.Calls.{Call, frame, recommendation, step, ControlDoes}
+use Rattle.input_volume_controller.specs.Calls.{Call, frame, recommendation, step, Typed, ControlDoes}
 use Rattle.agc2.specs.declared.answers.Agc2Controller.{Agc2Controller}
 use Rattle.agc2.specs.declared.answers.Agc2Control.{Agc2Control}
 use Rattle.agc2.specs.Whole.{wholeOf}
@@ -30,7 +30,8 @@ pub record CreatedOf (channels : ℤ) (config : Config) (r : Agc2Controller) : T
   pub becomes : Becomes (makingOf channels config .controller) (wholeOf r)
 
 -- a frame's step; a refused one hands the very controller back
-pub record FramedAs (self : InputVolumeController) (s : Stepped) (r : Agc2Controller) : Type 0 where
+pub record FramedAs (self : InputVolumeController) (call : Call) (s : Stepped) (r : Agc2Controller) : Type 0 where
+  pub typed : Typed call
   pub refusal : r .refusal ≡ frameNumbers (s .reply) .refusal
   pub near : r .near ≡ frameNumbers (s .reply) .near
   pub unanswered : Unanswered (r .control)
@@ -38,7 +39,7 @@ pub record FramedAs (self : InputVolumeController) (s : Stepped) (r : Agc2Contro
   pub same : (n : ℕ) → s .reply ≡ refused n → wholeOf r ≡ self
 
 abbrev pub AnalyzedOf : InputVolumeController → ℤ → ℕ → List Float → Agc2Controller → Type 0
-AnalyzedOf self volume samples lent r = FramedAs self (step (viewOf self) (frame volume samples lent)) r
+AnalyzedOf self volume samples lent r = FramedAs self (frame volume samples lent) (step (viewOf self) (frame volume samples lent)) r
 
 -- a recommendation, whatever predictor stands beside the control
 pub record RecommendedAs (self : VolumeControl) (call : Call) (r : Agc2Control) : Type 0 where

@@ -29,7 +29,7 @@ use Rattle.input_volume_controller.specs.ControlCalls.{lowerChannels, on
 use Rattle.input_volume_controller.specs.Controller.{Controller, together, viewOf, Good, Becomes}
 use Rattle.input_volume_controller.specs.Reply.{Reply, mark, Stepped}
 use Rattle.input_volume_controller.specs.Frame.{askedOf, handled, unlessWaiting}
-use Rattle.input_volume_controller.specs.Calls.{Call, Does, ControlDoes, Framed}
+use Rattle.input_volume_controller.specs.Calls.{Call, Typed, Does, ControlDoes, Framed}
 use Rattle.input_volume_controller.proofs.ChannelLists.{count-is}
 
 -- ---- its two parts
@@ -77,12 +77,13 @@ pub with-control : (self : InputVolumeController) (c : VolumeControl) (said : Co
 with-control self c said good b n = whole self c (self .predictor) said _ good b (good .predictor) refl (record { channels = n; rings = refl })
 
 -- a call that leaves the predictor alone
-pub does-whole : (self : InputVolumeController) (call : Call) (says : Reply) (r : VolumeControl) → Good self → ControlDoes (self .control) call says r → Does self call says (together r (self .predictor))
+pub does-whole : (self : InputVolumeController) (call : Call) (says : Reply) (r : VolumeControl) → Good self → Typed call → ControlDoes (self .control) call says r → Does self call says (together r (self .predictor))
 unfolding viewOf
-does-whole self call says r good d =
+does-whole self call says r good typed d =
     let e = d .does (PredictorOf.viewOf (self .predictor)) in
     record {
       good = record { control = d .good; predictor = good .predictor; counts = good .counts ∙ sym (d .count) };
+      typed = typed;
       reply = sym (ap (λ (x : Stepped). x .reply) e);
       view = sym (ap (λ (x : Stepped). x .state) e);
     }

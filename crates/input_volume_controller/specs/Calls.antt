@@ -3,8 +3,10 @@ use mathlib.Core.Path.{_≡_}
 use mathlib.Core.Bool.{Bool}
 use mathlib.Core.List.{List, [], _∷_}
 use Prim.Native.Nat.{ℕ}
+use lib.Dec.{T}
 use lib.IntN.{ℤ}
-use lib.Ieee.{Float}
+use lib.Ieee.{Float, nan, binary32, fits}
+use lib.ListN.{getD}
 use Rattle.numbers.specs.declared.refusal.Refusal.{Refusal}
 use Rattle.clipping_predictor_level_buffer.specs.declared.level.Level.{Level}
 use Rattle.clipping_predictor.specs.Predictor.{Predictor}
@@ -57,9 +59,17 @@ answers c (call ∷ calls) = answerOf (step c call) ∷ answers (step c call .st
 
 -- ---- what the contracts of the calls say
 
+-- what the language's types say of a call's inputs, and a claim may need: lent samples are 32-bit floats
+abbrev pub Typed : Call → Type 0
+Typed (frame volume samples lent) = (i : ℕ) → T (fits binary32 (getD lent i nan))
+Typed (recommendation probability level) = Unit {0}
+Typed initialise = Unit {0}
+Typed (captureSwitch on) = Unit {0}
+
 -- r is what the call hands back, and it says what the definition says
 pub record Does (self : InputVolumeController) (call : Call) (says : Reply) (r : InputVolumeController) : Type 0 where
   pub good : Good r
+  pub typed : Typed call
   pub reply : says ≡ step (viewOf self) call .reply
   pub view : viewOf r ≡ step (viewOf self) call .state
 

@@ -49,7 +49,7 @@ returns c =
     let w = c .before .before in
     let s = w .before .before in
     let e = of-parts s _ _ (sym (w .within .ensures) ∙ c .enum-told .given .1) refl in
-    record { does = record { good = s .pre; reply = sym (ap (λ (x : Stepped). x .reply) e); view = sym (ap (λ (x : Stepped). x .state) e) }; same = λ cause q. refl }
+    record { does = record { good = s .pre; typed = w .before .shared-slice-known .given; reply = sym (ap (λ (x : Stepped). x .reply) e); view = sym (ap (λ (x : Stepped). x .state) e) }; same = λ cause q. refl }
 
 cast-frame-fits : tie.Need-cast-frame-fits
 cast-frame-fits c = let s = c .before .before .before .before .before .before in omega (arith, s .pre .control .channels .high)
@@ -62,7 +62,7 @@ returns-2 c =
     let v = c .before .before .before .before in
     let s = v .before .before .before .before in
     let e = of-parts s _ _ (volume-is v) (sym (c .before .frame-fits .ensures) ∙ not-true _ (c .if1 .taken)) in
-    record { does = record { good = s .pre; reply = sym (ap (λ (x : Stepped). x .reply) e); view = sym (ap (λ (x : Stepped). x .state) e) }; same = λ cause q. refl }
+    record { does = record { good = s .pre; typed = v .before .before .before .shared-slice-known .given; reply = sym (ap (λ (x : Stepped). x .reply) e); view = sym (ap (λ (x : Stepped). x .state) e) }; same = λ cause q. refl }
 
 cast-set-applied-input-volume : tie.Need-cast-set-applied-input-volume
 cast-set-applied-input-volume c = let t = told 0 maxInputVolume _ _ (volume-is (c .before .before .before .before .before .before)) in omega (arith, t .most)
@@ -92,7 +92,7 @@ returns-3 c =
     let s = v .before .before .before .before in
     let e = of-parts s _ _ (volume-is v) (sym (i .before .frame-fits .ensures) ∙ not-false _ (i .if1 .left)) in
     let f = framed-same (λ j. ifUsed (applied-whole a .is j .control .used) (s .args .samples-per-channel) (now (s .args .frame)) (applied-whole a .is j)) (c .accepted .ensures) in
-    record { does = record { good = f .good; reply = f .reply ∙ sym (ap (λ (x : Stepped). x .reply) e); view = f .view ∙ sym (ap (λ (x : Stepped). x .state) e) }; same = λ cause q. absurd (f .accepted cause q) }
+    record { does = record { good = f .good; typed = v .before .before .before .shared-slice-known .given; reply = f .reply ∙ sym (ap (λ (x : Stepped). x .reply) e); view = f .view ∙ sym (ap (λ (x : Stepped). x .state) e) }; same = λ cause q. absurd (f .accepted cause q) }
 
 pub analyze-input-audio-spec : {M : Type 1} → statement M
 analyze-input-audio-spec = tie.close (tie.spec within-requires enum-known-given enum-told returns cast-frame-fits frame-fits-requires returns-2 cast-set-applied-input-volume set-applied-input-volume-requires accepted-requires returns-3)

@@ -8,7 +8,7 @@ handle-capture-output-used-change-requires : tie.Need-handle-capture-output-used
 handle-capture-output-used-change-requires c κs = search needs
 
 returns : tie.Need-returns
-returns c = let s = c .before .before in does-whole (s .args .self) _ _ _ (s .pre) (c .handle-capture-output-used-change .ensures)
+returns c = let s = c .before .before in does-whole (s .args .self) _ _ _ (s .pre) tt (c .handle-capture-output-used-change .ensures)
 
 pub handle-capture-output-used-change-spec : {M : Type 1} → statement M
 handle-capture-output-used-change-spec = tie.close (tie.spec handle-capture-output-used-change-requires returns)

@@ -8,7 +8,7 @@ initialize-requires : tie.Need-initialize-requires
 initialize-requires c κs = search needs
 
 returns : tie.Need-returns
-returns c = let s = c .before .before in does-whole (s .args .self) _ _ _ (s .pre) (c .initialize .ensures)
+returns c = let s = c .before .before in does-whole (s .args .self) _ _ _ (s .pre) tt (c .initialize .ensures)
 
 pub initialize-spec : {M : Type 1} → statement M
 initialize-spec = tie.close (tie.spec initialize-requires returns)
