@@ -14,7 +14,7 @@ use Rattle.numbers.specs.declared.natural.Natural.{Natural}
 use Rattle.numbers.specs.declared.natural.Natural.the-variants.{Number, Outside}
 use Rattle.numbers.specs.declared.refusal.Outcome.the-variants.{Accepted}
 use Rattle.numbers.specs.Natural.{withinOf}
-use Rattle.clipping_predictor.specs.Predictor.{frameFits, enteredIf}
+use Rattle.clipping_predictor.specs.Predictor.{maxChannels, frameFits, enteredIf}
 use Rattle.mono_input_volume_controller.specs.declared.config.Config.{Config}
 use Rattle.mono_input_volume_controller.specs.declared.config.Settings.{Settings}
 use Rattle.mono_input_volume_controller.specs.declared.speech_level.SpeechLevel.{SpeechLevel}
@@ -111,7 +111,7 @@ module _ (s : Settings) (n : ℕ) (low : s .least ≤ 255) where
 -- ---- the claim
 
 module _ (channels : ℤ) (config : Config) (accepted : makingOf channels config .answer ≡ Accepted) (calls : List Call) where
-  made : MadeWith config (settingsFrom config) (makingOf channels config .controller)
+  made : MadeWith (withinOf 1 maxChannels channels) config (settingsFrom config) (makingOf channels config .controller)
   made = accepted-making channels config accepted
 
   sound : Sound (settingsFrom config) (made .count) (after (makingOf channels config .controller) calls .control)

@@ -1,6 +1,7 @@
 -- Every claim holds. Assumes nothing.
 use Rattle.claims.specs.Claims.{Claims}
 use Rattle.claims.proofs.Run.{runs-are-runs}
+use Rattle.claims.proofs.RunsExist.{runs-exist}
 use Rattle.claims.proofs.Refused.{refused-calls}
 use Rattle.claims.proofs.Below.{refused-below}
 use Rattle.claims.proofs.Bounds.{bounds}
@@ -11,6 +12,7 @@ use Rattle.claims.proofs.Unmarked.{unmarked-is-exact}
 use Rattle.claims.proofs.UnmarkedRun.{unmarked-run-is-exact}
 use Rattle.claims.proofs.TwoPasts.{two-pasts}
 use Rattle.claims.proofs.InCode.{two-pasts-in-code}
+use Rattle.claims.proofs.TwoMakings.{two-pasts-of-makings}
 use Rattle.claims.proofs.EveryMode.{two-pasts-in-every-mode}
 use Rattle.claims.proofs.Exists.{lead-ins-exist}
 use Rattle.claims.proofs.Accepted.{accepted-is-not-refused}
@@ -24,6 +26,7 @@ use Rattle.claims.proofs.None.{none-exactly}
 pub claims : Claims
 claims = record {
   runs = runs-are-runs;
+  runs-exist = runs-exist;
   refused = refused-calls;
   refused-below = refused-below;
   bounds = bounds;
@@ -34,6 +37,7 @@ claims = record {
   unmarked-run = unmarked-run-is-exact;
   two-pasts = two-pasts;
   two-pasts-in-code = two-pasts-in-code;
+  two-pasts-of-makings = two-pasts-of-makings;
   two-pasts-in-every-mode = two-pasts-in-every-mode;
   lead-ins-exist = lead-ins-exist;
   accepted-is-not-refused = accepted-is-not-refused;

@@ -1,3 +1,4 @@
+pub mod Every
 pub mod Run
 pub mod Causes
 pub mod Making
@@ -44,6 +45,10 @@ pub mod TwoPasts
 pub mod Exists
 pub mod TooFew
 pub mod InCode
+pub mod TwoMakings
+pub mod Sane
+pub mod Inverse
+pub mod RunsExist
 pub mod Accepted
 pub mod Needed
 pub mod Claims

@@ -20,7 +20,7 @@ use Rattle.claims.proofs.Equal.{lowest-most, Stays, One, Alike, alike-k
 
 -- ---- one channel
 
-good-stays : Stays Good
+pub good-stays : Stays Good
 unfolding called
 good-stays = record {
   initial = λ m g. omega arith;
@@ -32,7 +32,7 @@ good-stays = record {
 
 -- ---- all channels
 
-raised-most : (a : Applied) (least x : ℕ) → least ≤ 255 → x ≤ 255 → raisedFor a least x ≤ 255
+pub raised-most : (a : Applied) (least x : ℕ) → least ≤ 255 → x ≤ 255 → raisedFor a least x ≤ 255
 unfolding raisedFor
 raised-most Nothing least x h k = k
 raised-most (Volume zero) least x h k = k

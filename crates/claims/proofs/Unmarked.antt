@@ -2,7 +2,7 @@
 use mathlib.Core.Path.{_≡_}
 use mathlib.Core.Bool.{Bool, true, false, _&&_, cond}
 use mathlib.Core.List.{List, [], _∷_, map, foldl}
-use Prim.Native.Nat.{ℕ, zero, suc, _+_}
+use Prim.Native.Nat.{ℕ, _+_}
 use lib.Dec.{T, leb, lit≤}
 use lib.IntN.{ℤ, pos, negsuc}
 use lib.Ieee.{Float, binary32, fits, lt, ofInt}
@@ -25,7 +25,9 @@ use Rattle.clipping_predictor.specs.Tree.{Tree, leaf, test, ifLess}
 use Rattle.clipping_predictor.specs.Estimate as P
 use Rattle.clipping_predictor.specs.Estimate.{dropBy, adaptiveDrop, wholeDb, eventTree, peakTree, aboveTree, modeTree, windowsTree, unlessLow, capacityOf, estimateTree}
 use Rattle.claims.specs.Exact as E
-use Rattle.claims.specs.Unmarked.{Turned, Every, PeakFits, UnmarkedIsExact}
+use Rattle.claims.specs.Every.{Every}
+use Rattle.claims.specs.Unmarked.{Turned, PeakFits, UnmarkedIsExact}
+use Rattle.claims.proofs.Every.{every-drop, every-take}
 use Rattle.claims.proofs.Apart.{Close, close-plus, close-minus, less-apart, most-apart, close-constant, close-level}
 use Rattle.claims.proofs.ExactCeiling.{turned-test, turned-leaf, unmarked-reached, turned-adaptive}
 
@@ -34,16 +36,6 @@ use Rattle.claims.proofs.ExactCeiling.{turned-test, turned-leaf, unmark
 record Fit (l : Level) : Type 0 where
   peak : T (fits binary32 (l .max))
   mean : T (fits binary32 (l .average))
-
-pub every-drop : {A : Type 0} (P : A → Type 0) (n : ℕ) (xs : List A) → Every P xs → Every P (drop n xs)
-every-drop P zero xs f = f
-every-drop P (suc n) [] f = f
-every-drop P (suc n) (x ∷ xs) f = every-drop P n xs (f .1)
-
-pub every-take : {A : Type 0} (P : A → Type 0) (n : ℕ) (xs : List A) → Every P xs → Every P (take n xs)
-every-take P zero xs f = tt
-every-take P (suc n) [] f = tt
-every-take P (suc n) (x ∷ xs) f = (f .0, every-take P n xs (f .1))
 
 second-fits : (t : Bool) (x y : Float) → T (fits binary32 x) → T (fits binary32 y) → T (fits binary32 (secondIf t x y))
 second-fits true x y f g = g

@@ -29,6 +29,7 @@ use Rattle.mono_input_volume_controller.specs.declared.config.Checked.the-varia
 use Rattle.mono_input_volume_controller.specs.declared.speech_level.SpeechLevel.{SpeechLevel}
 use Rattle.mono_input_volume_controller.specs.MonoState.{maxInputVolume}
 use Rattle.mono_input_volume_controller.specs.Config.{settingsOf}
+use Rattle.input_volume_controller.specs.declared.InputVolumeController.{InputVolumeController}
 use Rattle.input_volume_controller.specs.declared.Applied.{Applied}
 use Rattle.input_volume_controller.specs.declared.Applied.the-variants.{Nothing, Volume}
 use Rattle.clipping_predictor.specs.Predictor.{maxChannels}
@@ -37,11 +38,16 @@ use Rattle.input_volume_controller.specs.Controller.{Controller, madeOf, making
 use Rattle.input_volume_controller.specs.Reply.{Stepped}
 use Rattle.input_volume_controller.specs.Frame.{askedOf, handleIf, handled, unlessWaitingBy, ifUsedBy, unlessRefusedBy, unlessWaiting, ifUsed, unlessRefused, withVolumeApplied, analyzeInputAudio}
 use Rattle.input_volume_controller.specs.Recommendation.{recommendIf, unlessNone, recommendInputVolume}
-use Rattle.input_volume_controller.specs.Calls.{Call, frame, recommendation, initialise, captureSwitch, step, after, Answer, answerOf, answers}
+use Rattle.input_volume_controller.specs.Calls.{Call, frame, recommendation, initialise, captureSwitch, step, after, Answer, answerOf, answers, Typed}
 use Rattle.claims.specs.Exact.{exactDrop}
-use Rattle.claims.specs.Unmarked.{Every, PeakFits}
-use Rattle.claims.specs.ExactRun.{exactPredicted, exactFrame, exactStep, exactAfter, exactAnswers, CallFits, NotNear, Unmarked, SameAsExact, UnmarkedRunIsExact}
-use Rattle.claims.proofs.Unmarked.{every-drop, every-take, fold-fits, zero-fits, unmarked-is-exact}
+use Rattle.claims.specs.Run.{Run, none, next}
+use Rattle.claims.specs.Made.{MadeAndHad}
+use Rattle.claims.specs.Every.{Every}
+use Rattle.claims.specs.Unmarked.{PeakFits}
+use Rattle.claims.specs.ExactRun.{exactPredicted, exactFrame, exactStep, exactAfter, exactAnswers, NotNear, Unmarked, SameAsExact, HeardAsExact, UnmarkedRunIsExact}
+use Rattle.claims.proofs.Run.{runs-are-runs}
+use Rattle.claims.proofs.Every.{every-drop, every-take, every-from, every-listed, every-map, every-replicate}
+use Rattle.claims.proofs.Unmarked.{fold-fits, zero-fits, unmarked-is-exact}
 
 -- ---- all rings of a predictor
 
@@ -88,15 +94,10 @@ level-fits : (xs : List Float) → Every (λ (x : Float). T (fits binary32 x)) x
 unfolding levelOf largest
 level-fits xs f = fold-fits (map magnitudeOf xs) plusZero zero-fits (magnitudes-fit xs f)
 
-listed-fit : (g : ℕ → Level) (n : ℕ) → ((i : ℕ) → PeakFits (g i)) → Every PeakFits (listed g n)
-unfolding listed
-listed-fit g zero f = tt
-listed-fit g (suc n) f = (f 0, listed-fit (λ i. g (suc i)) n (λ i. f (suc i)))
-
 levels-fit : (channels samples : ℕ) (lent : List Float) → Every (λ (x : Float). T (fits binary32 x)) lent → Every PeakFits (levelsOf channels samples lent)
 levels-fit channels samples lent f =
-    listed-fit (λ c. levelOf (partOf samples lent c)) channels
-    (λ c. level-fits (partOf samples lent c) (every-take (λ (x : Float). T (fits binary32 x)) samples (drop (c * samples) lent) (every-drop (λ (x : Float). T (fits binary32 x)) (c * samples) lent f)))
+    every-listed PeakFits (λ c. levelOf (partOf samples lent c)) channels
+    (λ c h. level-fits (partOf samples lent c) (every-take (λ (x : Float). T (fits binary32 x)) samples (drop (c * samples) lent) (every-drop (λ (x : Float). T (fits binary32 x)) (c * samples) lent f)))
 
 push-fits : (capacity : ℕ) (levels : List Level) (rings : List (List Level)) → Every PeakFits levels → Every (Every PeakFits) rings → Every (Every PeakFits) (pushEach capacity levels rings)
 unfolding pushEach
@@ -107,10 +108,6 @@ push-fits capacity (l ∷ levels) (r ∷ rings) f g = (every-take PeakFits capac
 entered-fits : (samples : ℕ) (lent : List Float) (p : Predictor) → Every (λ (x : Float). T (fits binary32 x)) lent → Every (Every PeakFits) (p .rings) → Every (Every PeakFits) (enteredIf true samples lent p .rings)
 entered-fits samples lent p f g = push-fits (capacityOf (p .settings)) (levelsOf (length (p .rings)) samples lent) (p .rings) (levels-fit (length (p .rings)) samples lent f) g
 
-emptied-fits : (rings : List (List Level)) → Every (Every PeakFits) (map (λ (r : List Level). []) rings)
-emptied-fits [] = tt
-emptied-fits (r ∷ rings) = (tt, emptied-fits rings)
-
 -- ---- one call: what it hands back has such rings, and is what exact logarithms lead to
 
 pub record Exactly (s t : Stepped) : Type 0 where
@@ -118,7 +115,7 @@ pub record Exactly (s t : Stepped) : Type 0 where
   same : NotNear (s .reply) → s ≡ t
 
 handle-fits : (t : Bool) (by : ℕ) (c : Controller) → Every (Every PeakFits) (c .predictor .rings) → Every (Every PeakFits) (handleIf t by c .predictor .rings)
-handle-fits true by c f = emptied-fits (c .predictor .rings)
+handle-fits true by c f = every-map (Every PeakFits) (λ (r : List Level). []) (c .predictor .rings) (λ r h. tt) f
 handle-fits false by c f = f
 
 waiting-exact : (waits clipped : Bool) (c : Controller) → Every (Every PeakFits) (c .predictor .rings) → Exactly (unlessWaiting waits clipped c) (unlessWaitingBy exactPredicted waits clipped c)
@@ -160,15 +157,15 @@ recommendation-rings : (probability : Float) (level : SpeechLevel) (c : Controll
 unfolding recommendInputVolume
 recommendation-rings probability level c = none-rings (c .control .applied) probability level c
 
-step-exact : (call : Call) (c : Controller) → CallFits call → Every (Every PeakFits) (c .predictor .rings) → Exactly (step c call) (exactStep c call)
-step-exact (frame volume samples lent) c f g = frame-exact volume samples lent c f g
+step-exact : (call : Call) (c : Controller) → Typed call → Every (Every PeakFits) (c .predictor .rings) → Exactly (step c call) (exactStep c call)
+step-exact (frame volume samples lent) c f g = frame-exact volume samples lent c (every-from (λ (x : Float). T (fits binary32 x)) lent nan f) g
 step-exact (recommendation probability level) c f g = record { fit = subst (λ (p : Predictor). Every (Every PeakFits) (p .rings)) (sym (recommendation-rings probability level c)) g; same = λ m. refl }
 step-exact initialise c f g = record { fit = g; same = λ m. refl }
 step-exact (captureSwitch on) c f g = record { fit = g; same = λ m. refl }
 
 -- ---- runs
 
-from : (c : Controller) (calls : List Call) → Every (Every PeakFits) (c .predictor .rings) → Every CallFits calls → Every Unmarked (answers c calls) → SameAsExact c calls
+from : (c : Controller) (calls : List Call) → Every (Every PeakFits) (c .predictor .rings) → Every Typed calls → Every Unmarked (answers c calls) → SameAsExact c calls
 unfolding answers exactAnswers after exactAfter
 from c [] f g m = record { answers-are = refl; state-is = refl }
 from c (call ∷ calls) f g m =
@@ -180,22 +177,35 @@ from c (call ∷ calls) f g m =
       state-is = rest .state-is ∙ ap (λ (s : Stepped). exactAfter (s .state) calls) e;
     }
 
-empty-fit : (n : ℕ) → Every (Every PeakFits) (replicate n [])
-empty-fit zero = tt
-empty-fit (suc n) = (tt, empty-fit n)
-
 made-fit : (v : Natural) (checked : Checked) → Every (Every PeakFits) (madeOf v checked .controller .predictor .rings)
 unfolding madeOf
 made-fit Outside checked = (tt, tt)
 made-fit (Number n) (Checked.Refused cause) = (tt, tt)
-made-fit (Number n) (Checked.InOrder s) = empty-fit n
+made-fit (Number n) (Checked.InOrder s) = every-replicate (Every PeakFits) n [] tt
 
 making-fits : (channels : ℤ) (config : Config) → Every (Every PeakFits) (makingOf channels config .controller .predictor .rings)
 unfolding makingOf
 making-fits channels config = made-fit (withinOf 1 maxChannels channels) (settingsOf config)
 
+-- ---- the code
+
+typed : {c : InputVolumeController} {calls : List Call} {heard : List Answer} {e : InputVolumeController} → Run c calls heard e → Every Typed calls
+typed none = tt
+typed (next h r) = (h .typed, typed r)
+
+in-code : (channels : ℤ) (config : Config) (calls : List Call) (heard : List Answer) (c : InputVolumeController) → MadeAndHad channels config calls heard c → Every Unmarked heard
+    → HeardAsExact (makingOf channels config .controller) calls heard c
+in-code channels config calls heard c h m =
+    let new : Controller = makingOf channels config .controller in
+    let r = runs-are-runs (h .made .controller) calls heard c (h .created .good) (h .run) in
+    let said : heard ≡ answers new calls = r .answered ∙ ap (λ (x : Controller). answers x calls) (h .created .view) in
+    let e = from new calls (making-fits channels config) (typed (h .run)) (subst (Every Unmarked) said m) in
+    record { heard-is = said ∙ e .answers-are; view-is = r .view ∙ ap (λ (x : Controller). after x calls) (h .created .view) ∙ e .state-is }
+
+-- THE CLAIM
 pub unmarked-run-is-exact : UnmarkedRunIsExact
 unmarked-run-is-exact = record {
   from = from;
   made = λ channels config calls f m. from (makingOf channels config .controller) calls (making-fits channels config) f m;
+  in-code = in-code;
 }

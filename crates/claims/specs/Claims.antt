@@ -3,6 +3,7 @@
 -- of each call. So to believe a claim of the running code, a reader has to read its statement, the definitions that it names, and those contracts; the proofs are checked.
 -- That every call is total, and hands its state back in good order, the contracts say by themselves. Definitions only.
 use Rattle.claims.specs.Run.{RunsAreRuns}
+use Rattle.claims.specs.RunsExist.{RunsExist}
 use Rattle.claims.specs.Refused.{RefusedCalls}
 use Rattle.claims.specs.RefusedBelow.{RefusedBelow}
 use Rattle.claims.specs.Bounds.{Bounds}
@@ -13,6 +14,7 @@ use Rattle.claims.specs.Unmarked.{UnmarkedIsExact}
 use Rattle.claims.specs.ExactRun.{UnmarkedRunIsExact}
 use Rattle.claims.specs.TwoPasts.{TwoPasts, TwoPastsInEveryMode}
 use Rattle.claims.specs.InCode.{TwoPastsInCode}
+use Rattle.claims.specs.Made.{TwoPastsOfMakings}
 use Rattle.claims.specs.Sharp.{LeadInsExist, AcceptedIsNotRefused, TwoFewerAreTooFew}
 use Rattle.claims.specs.Needed.{PartsAreNeeded}
 use Rattle.claims.specs.Starred.{StarredCases}
@@ -23,6 +25,8 @@ use Rattle.claims.specs.None.{NoneExactly}
 pub record Claims : Type 0 where
   -- a run of the Rattle functions is a run of the definition
   pub runs : RunsAreRuns
+  -- and none of these is empty: every making hands something back, and from there every list of calls has a run
+  pub runs-exist : RunsExist
   -- a refused call changes nothing, and its number is the first cause in the table's order that holds
   pub refused : RefusedCalls
   -- and so say the calls of the crates below
@@ -38,9 +42,10 @@ pub record Claims : Type 0 where
   -- an estimate without a near mark decides as exact logarithms would, and a run without one goes as they would have it go
   pub unmarked : UnmarkedIsExact
   pub unmarked-run : UnmarkedRunIsExact
-  -- two controllers with equal settings cannot be told apart after the same lead-in, whatever their pasts: of the definitions, of the code, and for every predictor
+  -- two controllers with equal settings cannot be told apart after the same lead-in, whatever their pasts: of the definitions, of the code, from the making on, and for every predictor
   pub two-pasts : TwoPasts
   pub two-pasts-in-code : TwoPastsInCode
+  pub two-pasts-of-makings : TwoPastsOfMakings
   pub two-pasts-in-every-mode : TwoPastsInEveryMode
   -- that claim is not empty, and asks for no more than it needs: lead-ins exist, two frames fewer do not do, and no part may be left out
   pub lead-ins-exist : LeadInsExist

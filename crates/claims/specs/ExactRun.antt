@@ -1,23 +1,25 @@
 -- A run in which no frame is marked near is the run that exact logarithms lead to: every answer and every state is the same. So what rounded levels may change starts with the first marked
--- frame. It reaches the code by the contracts of the calls, as the other claims of runs do (Run.antt). Definitions only.
+-- frame. What is exact are the logarithms: means and peaks are the rounded floats that the definition asks for, and a value at 1 or below counts as 1. Definitions only.
 use mathlib.Core.Path.{_≡_}
 use mathlib.Core.Bool.{false}
 use mathlib.Core.List.{List, [], _∷_, map, foldl}
 use Prim.Native.Nat.{ℕ, max}
-use lib.Dec.{T}
 use lib.IntN.{ℤ}
-use lib.Ieee.{Float, binary32, fits}
+use lib.Ieee.{Float}
 use Rattle.clipping_predictor_level_buffer.specs.declared.level.Level.{Level}
 use Rattle.clipping_predictor.specs.declared.modes.Asked.{Asked}
 use Rattle.clipping_predictor.specs.declared.modes.Estimated.{Estimated}
 use Rattle.clipping_predictor.specs.Predictor.{Predictor}
 use Rattle.mono_input_volume_controller.specs.declared.config.Config.{Config}
-use Rattle.input_volume_controller.specs.Controller.{Controller, makingOf}
+use Rattle.input_volume_controller.specs.declared.InputVolumeController.{InputVolumeController}
+use Rattle.input_volume_controller.specs.Controller.{Controller, viewOf, makingOf}
 use Rattle.input_volume_controller.specs.Reply.{Reply, mark, refusal, volume, none, done, Stepped}
 use Rattle.input_volume_controller.specs.Frame.{frameBy}
-use Rattle.input_volume_controller.specs.Calls.{Call, frame, recommendation, initialise, captureSwitch, step, after, Answer, answerOf, answers}
+use Rattle.input_volume_controller.specs.Calls.{Call, frame, recommendation, initialise, captureSwitch, step, after, Answer, answerOf, answers, Typed}
+use Rattle.claims.specs.Made.{MadeAndHad}
+use Rattle.claims.specs.Every.{Every}
 use Rattle.claims.specs.Exact.{exactDrop}
-use Rattle.claims.specs.Unmarked.{Every, PeakFits}
+use Rattle.claims.specs.Unmarked.{PeakFits}
 
 -- ---- a frame with exact logarithms
 
@@ -44,14 +46,7 @@ unfoldable pub exactAnswers : Controller → List Call → List Answer
 exactAnswers c [] = []
 exactAnswers c (call ∷ calls) = answerOf (exactStep c call) ∷ exactAnswers (exactStep c call .state) calls
 
--- ---- what is asked of the calls
-
--- the samples are 32-bit floats
-abbrev pub CallFits : Call → Type 0
-CallFits (frame applied samples lent) = Every (λ (x : Float). T (fits binary32 x)) lent
-CallFits (recommendation probability level) = Unit {0}
-CallFits initialise = Unit {0}
-CallFits (captureSwitch on) = Unit {0}
+-- ---- what is asked of the answers, and said
 
 -- a reply that is no near mark
 abbrev pub NotNear : Reply → Type 0
@@ -69,7 +64,14 @@ pub record SameAsExact (c : Controller) (calls : List Call) : Type 0 where
   pub answers-are : answers c calls ≡ exactAnswers c calls
   pub state-is : after c calls ≡ exactAfter c calls
 
--- THE CLAIM, for a controller whose rings hold 32-bit floats, and so for every one that is made
+-- the same of a controller of the code, with what was heard of it since it was made
+pub record HeardAsExact (new : Controller) (calls : List Call) (heard : List Answer) (c : InputVolumeController) : Type 0 where
+  pub heard-is : heard ≡ exactAnswers new calls
+  pub view-is : viewOf c ≡ exactAfter new calls
+
+-- THE CLAIM, for a controller whose rings hold 32-bit floats, and so for every one that is made; of the code nothing is asked, since its samples are 32-bit floats
 pub record UnmarkedRunIsExact : Type 0 where
-  pub from : (c : Controller) (calls : List Call) → Every (Every PeakFits) (c .predictor .rings) → Every CallFits calls → Every Unmarked (answers c calls) → SameAsExact c calls
-  pub made : (channels : ℤ) (config : Config) (calls : List Call) → Every CallFits calls → Every Unmarked (answers (makingOf channels config .controller) calls) → SameAsExact (makingOf channels config .controller) calls
+  pub from : (c : Controller) (calls : List Call) → Every (Every PeakFits) (c .predictor .rings) → Every Typed calls → Every Unmarked (answers c calls) → SameAsExact c calls
+  pub made : (channels : ℤ) (config : Config) (calls : List Call) → Every Typed calls → Every Unmarked (answers (makingOf channels config .controller) calls) → SameAsExact (makingOf channels config .controller) calls
+  pub in-code : (channels : ℤ) (config : Config) (calls : List Call) (heard : List Answer) (c : InputVolumeController) → MadeAndHad channels config calls heard c → Every Unmarked heard
+      → HeardAsExact (makingOf channels config .controller) calls heard c

@@ -1,3 +1,4 @@
+pub mod Every
 pub mod Run
 pub mod Causes
 pub mod Refused
@@ -9,14 +10,16 @@ pub mod Broken
 pub mod Equal
 pub mod Levels
 pub mod Marked
-pub mod Exact
-pub mod Unmarked
-pub mod ExactRun
 pub mod GainTable
 pub mod Starred
 pub mod LeadIn
 pub mod TwoPasts
 pub mod Sharp
 pub mod InCode
+pub mod Made
+pub mod RunsExist
+pub mod Exact
+pub mod Unmarked
+pub mod ExactRun
 pub mod Needed
 pub mod Claims

@@ -2,7 +2,7 @@
 -- `InputVolumeController::analyze_input_audio` rest on it): its tests compare rounded levels, and are near where the sides lie 10 apart or less. `exactDrop` compares exact ones. Definitions only.
 use mathlib.Core.Path.{_≡_}
 use mathlib.Core.Bool.{true, false}
-use mathlib.Core.List.{List, [], _∷_}
+use mathlib.Core.List.{List}
 use lib.Dec.{T}
 use lib.Ieee.{binary32, fits}
 use mathlib.Core.Logic.{_⊎_}
@@ -11,6 +11,7 @@ use Rattle.clipping_predictor.specs.declared.settings.Settings.{Settings}
 use Rattle.clipping_predictor.specs.declared.modes.Asked.{Asked}
 use Rattle.clipping_predictor.specs.Tree.{Tree, leaf, test, reached, marked}
 use Rattle.clipping_predictor.specs.Estimate.{estimateTree}
+use Rattle.claims.specs.Every.{Every}
 use Rattle.claims.specs.Exact.{exactDrop}
 
 -- a is what the outcomes lead to if each near test may have either outcome
@@ -20,11 +21,6 @@ Turned (test true false held failed) a = Turned held a
 Turned (test false false held failed) a = Turned failed a
 Turned (test true true held failed) a = Turned held a ⊎ Turned failed a
 Turned (test false true held failed) a = Turned held a ⊎ Turned failed a
-
--- something holds of every item of a list
-abbrev pub Every : {A : Type 0} → (A → Type 0) → List A → Type 0
-Every P [] = Unit {0}
-Every P (x ∷ xs) = P x × Every P xs
 
 -- A record's peak is a 32-bit float, as all that the code holds is. Its mean need not be asked: what is compared is a quotient of 32-bit floats.
 abbrev pub PeakFits : Level → Type 0

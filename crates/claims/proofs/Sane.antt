@@ -1,0 +1,196 @@
+-- What the value of a controller in good order has, every call keeps: settings in good order, 1 to 8 channels each in good order, a volume of at most 255, and as many rings, none over its
+-- capacity. Assumes nothing.
+use mathlib.Core.Path.{_≡_, _∙_}
+use mathlib.Core.Bool.{Bool, true, false, _||_}
+use mathlib.Core.List.{List, [], _∷_, map}
+use Prim.Native.Nat.{ℕ, zero, suc, _+_, _≤_, _<_, max, zero-le}
+use native.Mathlib.Nat.{not-suc-le-zero, le-of-suc-le-suc}
+use native.Mathlib.Omega.{arith}
+use lib.Dec.{ltb}
+use lib.Ieee.{Float, lt}
+use lib.ListN.{length, getD, length-take, length-map, replicate}
+use Rattle.numbers.specs.declared.natural.Natural.{Natural}
+use Rattle.numbers.specs.declared.natural.Natural.the-variants.{Number, Outside}
+use Rattle.numbers.specs.Listed.{listed}
+use Rattle.numbers.specs.Natural.{withinOf}
+use Rattle.clipping_predictor_level_buffer.specs.declared.level.Level.{Level}
+use Rattle.clipping_predictor.specs.declared.modes.Estimated.{Estimated}
+use Rattle.clipping_predictor.specs.declared.settings.Settings as PredictorSettings
+use Rattle.clipping_predictor.specs.Settings as Predictors
+use Rattle.clipping_predictor.specs.Estimate.{capacityOf}
+use Rattle.clipping_predictor.specs.Predictor.{maxChannels, Predictor, levelsOf, pushEach, frameFits, enteredIf, emptied}
+use Rattle.clipping_predictor.specs.AllRings.{predictedBy}
+use Rattle.mono_input_volume_controller.specs.declared.mono.MonoInputVolumeController.{MonoInputVolumeController}
+use Rattle.mono_input_volume_controller.specs.declared.speech_level.SpeechLevel.{SpeechLevel}
+use Rattle.mono_input_volume_controller.specs.SpeechLevel.{rmsErrorOf}
+use Rattle.mono_input_volume_controller.specs.MonoState.{maxInputVolume}
+use Rattle.mono_input_volume_controller.specs.MonoState as Mono
+use Rattle.mono_input_volume_controller.specs.Config as Config
+use Rattle.input_volume_controller.specs.declared.channels.Aggregate.{Aggregate}
+use Rattle.input_volume_controller.specs.declared.channels.ChannelCall.{ChannelCall}
+use Rattle.input_volume_controller.specs.declared.channels.ChannelCall.the-variants.{Initialize, StreamAnalogLevel, Clipping, Process}
+use Rattle.input_volume_controller.specs.declared.Applied.{Applied}
+use Rattle.input_volume_controller.specs.declared.Applied.the-variants.{Nothing, Volume}
+use Rattle.input_volume_controller.specs.ClippedRatio.{clippedRatio}
+use Rattle.input_volume_controller.specs.Channels.{called, eachCalled, lowerIf, lowerOf, aggregateFrom, aggregateOf}
+use Rattle.input_volume_controller.specs.Control.{Control}
+use Rattle.input_volume_controller.specs.ControlCalls.{raisedFor, aggregated, withAppliedInputVolume, initialize, lowerChannels, processChannels}
+use Rattle.input_volume_controller.specs.Controller.{Controller}
+use Rattle.input_volume_controller.specs.Frame.{askedOf, handleIf, unlessWaiting, ifUsed, withVolumeApplied, unlessRefused, analyzeInputAudio}
+use Rattle.input_volume_controller.specs.Recommendation.{recommendIf, unlessNone, recommendInputVolume}
+use Rattle.input_volume_controller.specs.Calls.{Call, frame, recommendation, initialise, captureSwitch, step}
+use Rattle.input_volume_controller.proofs.Whole.{entered-count, emptied-count}
+use Rattle.claims.specs.Every.{Every}
+use Rattle.claims.proofs.Every.{every-map}
+use Rattle.claims.proofs.Walk.{Keeps, step-keeps}
+use Rattle.claims.proofs.Sound.{good-stays, raised-most}
+
+-- ---- the controller without its predictor
+
+lower-most : (t : Bool) (v channel : ℕ) (a : Aggregate) → v ≤ 255 → a .volume ≤ 255 → lowerIf t v channel a .volume ≤ 255
+lower-most true v channel a h k = h
+lower-most false v channel a h k = k
+
+from-most : (a : Aggregate) (channel : ℕ) (ms : List MonoInputVolumeController) → a .volume ≤ 255 → Every Mono.Good ms → aggregateFrom a channel ms .volume ≤ 255
+unfolding aggregateFrom lowerOf
+from-most a channel [] h g = h
+from-most a channel (m ∷ ms) h g = from-most _ (channel + 1) ms (lower-most (ltb (m .volume) (a .volume)) (m .volume) channel a (g .0 .volume-le) h) (g .1)
+
+lowest-most : (ms : List MonoInputVolumeController) → Every Mono.Good ms → aggregateOf ms .volume ≤ 255
+unfolding aggregateOf
+lowest-most [] g = omega arith
+lowest-most (m ∷ ms) g = from-most _ 1 ms (g .0 .volume-le) (g .1)
+
+pub record SaneControl (n : ℕ) (c : Control) : Type 0 where
+  pub settings : Config.Good (c .settings)
+  pub count : length (c .channels) ≡ n
+  pub each : Every Mono.Good (c .channels)
+  pub volume : c .volume ≤ 255
+
+module _ (n : ℕ) where
+  -- every channel gets a call, and the volume is taken, with what is then pending
+  called-sane : (call : ChannelCall) (since : ℕ) (used : Bool) (a b : Applied) (c : Control) → ((m : MonoInputVolumeController) → Mono.Good m → Mono.Good (called call m)) → SaneControl n c
+      → SaneControl n (record {
+        settings = c .settings;
+        channels = eachCalled call (c .channels);
+        since = since;
+        used = used;
+        applied = b;
+        volume = raisedFor a (c .settings .least) (aggregateOf (eachCalled call (c .channels)) .volume);
+        controlling = aggregateOf (eachCalled call (c .channels)) .channel;
+      })
+  called-sane call since used a b c g h =
+      let each = every-map Mono.Good (called call) (c .channels) g (h .each) in
+      record {
+        settings = h .settings;
+        count = length-map (c .channels) (called call) ∙ h .count;
+        each = each;
+        volume = raised-most a (c .settings .least) _ (h .settings .least-le) (lowest-most _ each);
+      }
+
+  pub control-kept : Keeps (SaneControl n)
+  unfolding aggregated withAppliedInputVolume lowerChannels processChannels initialize
+  control-kept = record {
+    runs = record {
+      hears = record {
+        lowers = λ by c h. called-sane (Clipping by) 0 (c .used) (c .applied) (c .applied) c (good-stays .lower by) h;
+        counts = λ c h. record { settings = h .settings; count = h .count; each = h .each; volume = h .volume };
+      };
+      applies = λ v c l h. called-sane (StreamAnalogLevel v) (c .since) (c .used) (Volume v) (Volume v) c (λ m. good-stays .applied v m l) h;
+      processes = λ p l c h.
+          called-sane (Process (rmsErrorOf l (c .settings .«min_target») (c .settings .«max_target»)) p) (c .since) (c .used) (c .applied) Nothing c
+          (good-stays .process (rmsErrorOf l (c .settings .«min_target») (c .settings .«max_target»)) p) h;
+      repeats = λ c h. record { settings = h .settings; count = h .count; each = h .each; volume = raised-most (c .applied) (c .settings .least) _ (h .settings .least-le) (lowest-most _ (h .each)) };
+    };
+    initialises = λ c h. called-sane Initialize (c .since) true (c .applied) Nothing c (good-stays .initial) h;
+    switches = λ on c h. record {
+      settings = h .settings;
+      count = length-map (c .channels) _ ∙ h .count;
+      each = every-map Mono.Good _ (c .channels) (good-stays .switched on) (h .each);
+      volume = h .volume;
+    };
+  }
+
+-- ---- the predictor
+
+abbrev pub Holds : PredictorSettings.Settings → List Level → Type 0
+Holds p r = length r ≤ capacityOf p
+
+pub record SanePredictor (n : ℕ) (p : Predictor) : Type 0 where
+  pub settings : Predictors.Good (p .settings)
+  pub count : length (p .rings) ≡ n
+  pub each : Every (Holds (p .settings)) (p .rings)
+
+all-pushed : (p : PredictorSettings.Settings) (levels : List Level) (rings : List (List Level)) → Every (Holds p) rings → Every (Holds p) (pushEach (capacityOf p) levels rings)
+unfolding pushEach
+all-pushed p levels [] h = tt
+all-pushed p [] (r ∷ rings) h = h
+all-pushed p (l ∷ levels) (r ∷ rings) h = (rw length-take (omega arith), all-pushed p levels rings (h .1))
+
+module _ (n : ℕ) where
+  entered-sane : (samples : ℕ) (lent : List Float) (p : Predictor) → SanePredictor n p → SanePredictor n (enteredIf true samples lent p)
+  entered-sane samples lent p h = record {
+    settings = h .settings;
+    count = entered-count samples lent p ∙ h .count;
+    each = all-pushed (p .settings) (levelsOf (length (p .rings)) samples lent) (p .rings) (h .each);
+  }
+
+  emptied-sane : (p : Predictor) → SanePredictor n p → SanePredictor n (emptied p)
+  emptied-sane p h = record {
+    settings = h .settings;
+    count = emptied-count p ∙ h .count;
+    each = every-map (Holds (p .settings)) (λ (r : List Level). []) (p .rings) (λ r k. zero-le) (h .each);
+  }
+
+  handled-sane : (t : Bool) (by : ℕ) (c : Controller) → SanePredictor n (c .predictor) → SanePredictor n (handleIf t by c .predictor)
+  handled-sane true by c h = emptied-sane (c .predictor) h
+  handled-sane false by c h = h
+
+  waiting-sane : (t clipped : Bool) (c : Controller) → SanePredictor n (c .predictor) → SanePredictor n (unlessWaiting t clipped c .state .predictor)
+  waiting-sane true clipped c h = h
+  waiting-sane false clipped c h =
+      let e : Estimated = predictedBy (askedOf (c .control)) (c .predictor) in
+      handled-sane (clipped || ltb 0 (e .drop)) (max (c .control .settings .step) (e .drop)) c h
+
+  used-sane : (t : Bool) (samples : ℕ) (lent : List Float) (c : Controller) → SanePredictor n (c .predictor) → SanePredictor n (ifUsed t samples lent c .state .predictor)
+  used-sane true samples lent c h =
+      waiting-sane (ltb (c .control .since) (c .control .settings .«clipped_wait»))
+      (lt (c .control .settings .«clipped_ratio») (clippedRatio (length (c .control .channels)) samples lent))
+      (record { control = c .control; predictor = enteredIf true samples lent (c .predictor) }) (entered-sane samples lent (c .predictor) h)
+  used-sane false samples lent c h = h
+
+  frame-sane : (v : Natural) (fits : Bool) (samples : ℕ) (lent : List Float) (c : Controller) → SanePredictor n (c .predictor) → SanePredictor n (unlessRefused v fits samples lent c .state .predictor)
+  frame-sane Outside fits samples lent c h = h
+  frame-sane (Number volume) false samples lent c h = h
+  frame-sane (Number volume) true samples lent c h = used-sane (c .control .used) samples lent (withVolumeApplied volume c) h
+
+  recommended-sane : (t : Bool) (applied : ℕ) (probability : Float) (level : SpeechLevel) (c : Controller) → SanePredictor n (c .predictor) → SanePredictor n (recommendIf t applied probability level c .state .predictor)
+  recommended-sane true applied probability level c h = h
+  recommended-sane false applied probability level c h = h
+
+  asked-sane : (a : Applied) (probability : Float) (level : SpeechLevel) (c : Controller) → SanePredictor n (c .predictor) → SanePredictor n (unlessNone a probability level c .state .predictor)
+  asked-sane Nothing probability level c h = h
+  asked-sane (Volume applied) probability level c h = recommended-sane (c .control .used) applied probability level c h
+
+  predictor-sane : (call : Call) (c : Controller) → SanePredictor n (c .predictor) → SanePredictor n (step c call .state .predictor)
+  unfolding analyzeInputAudio recommendInputVolume
+  predictor-sane (frame volume samples lent) c h = frame-sane (withinOf 0 maxInputVolume volume) (frameFits (length (c .control .channels)) samples lent) samples lent c h
+  predictor-sane (recommendation probability level) c h = asked-sane (c .control .applied) probability level c h
+  predictor-sane initialise c h = h
+  predictor-sane (captureSwitch on) c h = h
+
+-- ---- the whole
+
+pub record Sane (n : ℕ) (c : Controller) : Type 0 where
+  pub low : 1 ≤ n
+  pub high : n ≤ maxChannels
+  pub control : SaneControl n (c .control)
+  pub predictor : SanePredictor n (c .predictor)
+
+pub step-sane : (n : ℕ) (call : Call) (c : Controller) → Sane n c → Sane n (step c call .state)
+step-sane n call c h = record {
+  low = h .low;
+  high = h .high;
+  control = step-keeps (SaneControl n) (control-kept n) call c (h .control);
+  predictor = predictor-sane n call c (h .predictor);
+}
