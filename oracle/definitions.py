@@ -4,8 +4,8 @@
 usage: definitions.py [FOLDER]     from the repository's root; FOLDER (a new one) keeps the copy that is worked in
 
 A must-fail edit cannot leave its crate, and a wrong definition of the controller is refused there already, where the functions no longer meet it. To see what the claims say by
-themselves, this works in a copy of the tree in which `input_volume_controller` has its types and definitions but no functions. Each edit is applied there, the crate `claims` is checked,
-and the first thing that no longer holds is printed. Exits with 1 if an edit breaks no claim.
+themselves, this works in a copy of the tree in which `input_volume_controller` and `frame_answers` have their types and definitions but no functions. Each edit is applied there, the crate
+`claims` is checked, and the first thing that no longer holds is printed. Exits with 1 if an edit breaks no claim.
 """
 import os
 import re
@@ -17,6 +17,7 @@ from wrong import copy_tree, refusals, replaced
 
 IVC = "crates/input_volume_controller/"
 MONO = "crates/mono_input_volume_controller/"
+ANSWERS = "crates/frame_answers/"
 
 # a name, and for each file the text that is replaced and what replaces it
 EDITS = [
@@ -52,27 +53,28 @@ def types_alone(text):
     return "\n".join(out) + "\n"
 
 
-def definitions_alone():
-    """The controller's crate keeps its types, its definitions and two files of laws about them."""
-    for name in os.listdir(IVC + "src"):
-        path = IVC + "src/" + name
+def definitions_alone(crate, laws):
+    """The crate keeps its types, its definitions and these files of laws about them."""
+    for name in os.listdir(crate + "src"):
+        path = crate + "src/" + name
         with open(path) as f:
             text = types_alone(f.read())
         with open(path, "w") as f:
             f.write(text)
-    for name in os.listdir(IVC + "proofs"):
-        path = IVC + "proofs/" + name
+    for name in os.listdir(crate + "proofs"):
+        path = crate + "proofs/" + name
         if os.path.isdir(path):
             shutil.rmtree(path)
-        elif name not in ("Clipped.antt", "Ratios.antt"):
+        elif name.removesuffix(".antt") not in laws:
             os.remove(path)
-    with open(IVC + "proofs/Lib.antt", "w") as f:
-        f.write("pub mod Clipped\npub mod Ratios\n")
+    with open(crate + "proofs/Lib.antt", "w") as f:
+        f.writelines(f"pub mod {law}\n" for law in laws)
 
 
 def main():
     copy_tree(sys.argv[1] if len(sys.argv) > 1 else tempfile.mkdtemp())
-    definitions_alone()
+    definitions_alone(IVC, ["Clipped", "Ratios"])
+    definitions_alone(ANSWERS, [])
     proved, wrong = refusals("claims", "crates/claims/")
     if not proved:
         sys.exit("the copy itself is not proved:\n" + "\n".join(wrong))

@@ -1,13 +1,13 @@
--- A calm list of calls, and that after enough quiet frames in it rings and count are known. Assumes nothing.
+-- A calm list of calls, and that after enough quiet frames in it, but for one, the next makes rings and count known. Assumes nothing.
 use mathlib.Core.Path.{_≡_, refl, sym, subst}
-use mathlib.Core.List.{List, [], _∷_, map}
+use mathlib.Core.List.{List, [], _∷_}
 use mathlib.Core.Bool.{Bool, true, false, not, _&&_, _||_}
-use Prim.Native.Nat.{ℕ, suc, _+_, _≤_, zero-le}
+use Prim.Native.Nat.{ℕ, suc, _+_, _-_, _≤_, zero-le}
 use native.Mathlib.Nat.{le-refl}
 use native.Mathlib.Omega.{arith}
 use lib.Dec.{T}
 use lib.Ieee.{Float, le}
-use lib.ListN.{take, replicate}
+use lib.ListN.{replicate}
 use Rattle.numbers.specs.declared.natural.Natural.{Natural}
 use Rattle.numbers.specs.declared.natural.Natural.the-variants.{Number, Outside}
 use Rattle.numbers.specs.Natural.{withinOf}
@@ -31,7 +31,7 @@ use Rattle.claims.specs.LeadIn.{all, isNumber, accepts, acceptedBy, acce
 use Rattle.claims.specs.TwoPasts.{enoughFor}
 use Rattle.claims.proofs.Lists.{and-l, and-r, is-true}
 use Rattle.claims.proofs.Kept.{Kept, count-of, kept-step}
-use Rattle.claims.proofs.Rings.{grow, match-start, match-full}
+use Rattle.claims.proofs.Rings.{grow, match-start}
 use Rattle.claims.proofs.Led.{Led, led-same}
 use Rattle.claims.proofs.QuietFrames.{led-frame}
 
@@ -110,19 +110,21 @@ module _ (p : Predictor.Settings) (s : Settings) (n : ℕ) where
         regroup : (a b c : ℕ) → a + (b + c) ≡ b + a + c
         regroup a b c = omega arith
 
-  -- ---- enough quiet frames
+  -- ---- enough quiet frames, but for the last one
 
   capacity-le : (t : Bool) (k : ℕ) → capacityIf t k ≤ k
   capacity-le true k = le-refl _
   capacity-le false k = zero-le
 
-  module _ (grown : List (List Level)) (k : ℕ) (c : Controller) (b : Kept p s n c) (h : L grown k c) (e : enoughFor p s ≤ k) where
-    pub ready-rings : c .predictor .rings ≡ map (take (capacityOf p)) grown
-    ready-rings =
-        match-full (isLow p) (capacityOf p) (h .m) k (c .predictor .rings) grown (omega (arith, capacity-le (p .enabled) (p .delay + p .reference), h .late, e)) (b .small) (h .rows)
+  module _ (grown : List (List Level)) (k : ℕ) (c : Controller) (h : L grown k c) (e : enoughFor p s - 1 ≤ k) where
+    -- one record more fills a ring
+    pub ready-rings : capacityOf p ≤ suc (h .m)
+    ready-rings = omega (arith, capacity-le (p .enabled) (p .delay + p .reference), h .late, e)
 
-    pub ready-since : c .control .since ≡ s .«clipped_wait»
-    ready-since = omega (arith, b .control .early, h .waited, h .late, e)
+    -- one frame more ends the wait
+    pub ready-since : s .«clipped_wait» ≤ suc (c .control .since)
+    ready-since = omega (arith, h .waited, h .late, e)
 
-  pub ready-window : (k : ℕ) → enoughFor p s ≤ k → p .window ≤ suc k
-  ready-window k e = omega (arith, e)
+  -- and fills the window
+  pub ready-window : (k : ℕ) → 1 ≤ p .reference → enoughFor p s - 1 ≤ k → p .window ≤ suc k
+  ready-window k r e = omega (arith, r, e)

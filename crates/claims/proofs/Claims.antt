@@ -10,7 +10,7 @@ use Rattle.claims.proofs.Levels.{levels-within-two}
 use Rattle.claims.proofs.Marked.{marked-exactly}
 use Rattle.claims.proofs.Unmarked.{unmarked-is-exact}
 use Rattle.claims.proofs.UnmarkedRun.{unmarked-run-is-exact}
-use Rattle.claims.proofs.TwoPasts.{two-pasts}
+use Rattle.claims.proofs.TwoPasts.{two-pasts, one-fewer-is-enough}
 use Rattle.claims.proofs.InCode.{two-pasts-in-code}
 use Rattle.claims.proofs.TwoMakings.{two-pasts-of-makings}
 use Rattle.claims.proofs.EveryMode.{two-pasts-in-every-mode}
@@ -19,6 +19,7 @@ use Rattle.claims.proofs.Accepted.{accepted-is-not-refused}
 use Rattle.claims.proofs.TooFew.{two-fewer-are-too-few}
 use Rattle.claims.proofs.Needed.{parts-are-needed}
 use Rattle.claims.proofs.Starred.{starred-cases}
+use Rattle.claims.proofs.ExampleLines.{example-lines}
 use Rattle.claims.proofs.GainTable.{never-falls-holds}
 use Rattle.claims.proofs.Equal.{equal-channels}
 use Rattle.claims.proofs.None.{none-exactly}
@@ -41,9 +42,11 @@ claims = record {
   two-pasts-in-every-mode = two-pasts-in-every-mode;
   lead-ins-exist = lead-ins-exist;
   accepted-is-not-refused = accepted-is-not-refused;
+  one-fewer-is-enough = one-fewer-is-enough;
   two-fewer-are-too-few = two-fewer-are-too-few;
   parts-are-needed = parts-are-needed;
   starred = starred-cases;
+  example-lines = example-lines;
   gains = never-falls-holds;
   equal = equal-channels;
   none = none-exactly;

@@ -2,7 +2,7 @@
 use mathlib.Core.Path.{_≡_, refl, ap, _∙_, subst}
 use mathlib.Core.List.{List, [], _∷_, _++_, map}
 use mathlib.Core.Bool.{true}
-use Prim.Native.Nat.{ℕ, _+_, _≤_}
+use Prim.Native.Nat.{ℕ, _+_, _-_, _≤_}
 use native.Mathlib.Omega.{arith}
 use lib.IntN.{pos}
 use lib.Ieee.{Float}
@@ -10,7 +10,8 @@ use lib.ListN.{take, replicate}
 use Rattle.clipping_predictor_level_buffer.specs.declared.level.Level.{Level}
 use Rattle.clipping_predictor.specs.declared.settings.Settings as Predictor
 use Rattle.clipping_predictor.specs.Estimate.{capacityOf}
-use Rattle.clipping_predictor.specs.Predictor.{enteredIf}
+use Rattle.clipping_predictor.specs.Settings.{Good}
+use Rattle.clipping_predictor.specs.Predictor.{Predictor, levelsOf, enteredIf}
 use Rattle.mono_input_volume_controller.specs.declared.config.Settings.{Settings}
 use Rattle.mono_input_volume_controller.specs.declared.mono.MonoInputVolumeController.{MonoInputVolumeController}
 use Rattle.mono_input_volume_controller.specs.declared.speech_level.SpeechLevel.{SpeechLevel}
@@ -27,15 +28,16 @@ use Rattle.claims.proofs.Lists.{all-left, all-right}
 use Rattle.claims.proofs.Cores.{core}
 use Rattle.claims.proofs.Closed.{finished, all-finished}
 use Rattle.claims.proofs.Kept.{Kept, count-of, kept-step, kept-after}
+use Rattle.claims.proofs.Rings.{grow}
 use Rattle.claims.proofs.Led.{entered, Led}
-use Rattle.claims.proofs.QuietFrames.{quiet-frame}
+use Rattle.claims.proofs.QuietFrames.{counting, quiet-frame, full-rings}
 use Rattle.claims.proofs.Calm.{grownIn, led-start, led-after, led-initialise, ready-rings, ready-since, ready-window}
 use Rattle.claims.proofs.Runs.{after-append, after-refused, skip, step-accepted, step-recommended}
 
 module _ (v samples : ℕ) (lent : List Float) (probability : Float) (level : SpeechLevel) where
-  -- the state that the last three calls leave, by what was there before: the settings, what is left of the channels, the count, the predictor's settings, the rings
-  final : Settings → List MonoInputVolumeController → ℕ → Predictor.Settings → List (List Level) → Controller
-  final s cores since p rings =
+  -- the state that the last three calls leave, by the settings, what is left of the channels, the count that the frame leaves, and the predictor that it leaves
+  final : Settings → List MonoInputVolumeController → ℕ → Predictor → Controller
+  final s cores since predictor =
       let channels = map (finished (rmsErrorOf level (s .«min_target») (s .«max_target»)) probability v) cores in
       record {
         control = record {
@@ -47,19 +49,19 @@ module _ (v samples : ℕ) (lent : List Float) (probability : Float) (level : Sp
           volume = raisedFor (Volume v) (s .least) (aggregateOf channels .volume);
           controlling = aggregateOf channels .channel;
         };
-        predictor = enteredIf true samples lent (record { settings = p; rings = rings });
+        predictor = predictor;
       }
 
-  closing : (c : Controller) → 1 ≤ v
-      → recommendIf true v probability level (entered v samples lent (step c initialise .state)) .state
-      ≡ final (c .control .settings) (map core (c .control .channels)) (c .control .since) (c .predictor .settings) (c .predictor .rings)
+  closing : (since : ℕ) (c : Controller) → 1 ≤ v
+      → recommendIf true v probability level (counting since (entered v samples lent (step c initialise .state))) .state
+      ≡ final (c .control .settings) (map core (c .control .channels)) since (enteredIf true samples lent (c .predictor))
   unfolding final processChannels withAppliedInputVolume initialize aggregated
-  closing c positive =
+  closing since c positive =
       ap (λ (channels : List MonoInputVolumeController). record {
         control = record {
           settings = c .control .settings;
           channels = channels;
-          since = c .control .since;
+          since = since;
           used = true;
           applied = Nothing;
           volume = raisedFor (Volume v) (c .control .settings .least) (aggregateOf channels .volume);
@@ -69,34 +71,43 @@ module _ (v samples : ℕ) (lent : List Float) (probability : Float) (level : Sp
       })
       (all-finished (rmsErrorOf level (c .control .settings .«min_target») (c .control .settings .«max_target»)) probability v positive (c .control .channels))
 
-module _ (p : Predictor.Settings) (s : Settings) (n : ℕ) (window : 1 ≤ p .window) (ratio : RatioFromZero s) (l : LeadIn n (quietFor p n) (enoughFor p s)) where
+-- one accepted frame fewer in the lead-in's list than the claim asks: the last frame is quiet too
+module _ (p : Predictor.Settings) (s : Settings) (n : ℕ) (good : Good p) (ratio : RatioFromZero s) (l : LeadIn n (quietFor p n) (enoughFor p s - 1)) where
   -- the state that the lead-in leads to, by the records that its list gave
   pub canon : List (List Level) → Controller
-  canon grown = final (l .volume) (l .samples) (l .lent) (l .probability) (l .level) s (replicate n (core (freshChannel s))) (s .«clipped_wait») p (map (take (capacityOf p)) grown)
+  canon grown =
+      final (l .volume) (l .samples) (l .lent) (l .probability) (l .level) s (replicate n (core (freshChannel s))) (s .«clipped_wait»)
+      (record { settings = p; rings = map (take (capacityOf p)) (grow (levelsOf n (l .samples) (l .lent)) grown) })
 
-  module _ (grown : List (List Level)) (k : ℕ) (c : Controller) (b : Kept p s n c) (h : Led p s grown k c) (e : enoughFor p s ≤ k) where
+  module _ (grown : List (List Level)) (k : ℕ) (c : Controller) (b : Kept p s n c) (h : Led p s grown k c) (e : enoughFor p s - 1 ≤ k) where
     abbrev first : Controller
     first = step c initialise .state
 
     abbrev second : Controller
-    second = entered (l .volume) (l .samples) (l .lent) first
+    second = counting (s .«clipped_wait») (entered (l .volume) (l .samples) (l .lent) first)
 
     kept-first : Kept p s n first
     kept-first = kept-step p s n initialise c b
+
+    led-first : Led p s grown k first
+    led-first = led-initialise p s n grown k c h
 
     to-second : step first (frame (pos (l .volume)) (l .samples) (l .lent)) .state ≡ second
     unfolding initialize aggregated
     to-second =
         step-accepted n (l .volume) (l .samples) (l .lent) first (count-of s n (first .control) (kept-first .control)) (l .accepted)
-        ∙ quiet-frame p s n window ratio (l .volume) (l .samples) (l .lent) grown k first kept-first (l .still) (led-initialise p s n grown k c h)
-        (ready-window p s n k e) (ready-since p s n grown k c b h e)
+        ∙ quiet-frame p s n (good .window-low) ratio (l .volume) (l .samples) (l .lent) grown k first kept-first (l .still) led-first
+        (ready-window p s n k (good .reference-low) e) (ready-since p s n grown k first led-first e)
 
     to-final : recommendIf true (l .volume) (l .probability) (l .level) second .state ≡ canon grown
     unfolding canon
     to-final =
-        closing (l .volume) (l .samples) (l .lent) (l .probability) (l .level) c (l .positive)
-        ∙ (λ i. final (l .volume) (l .samples) (l .lent) (l .probability) (l .level) (b .control .settings i) (b .control .cores i) (ready-since p s n grown k c b h e i) (b .settings i)
-        (ready-rings p s n grown k c b h e i))
+        closing (l .volume) (l .samples) (l .lent) (l .probability) (l .level) (s .«clipped_wait») c (l .positive)
+        ∙ (λ i. final (l .volume) (l .samples) (l .lent) (l .probability) (l .level) (b .control .settings i) (b .control .cores i) (s .«clipped_wait»)
+        (record {
+          settings = b .settings i;
+          rings = full-rings p s n (good .window-low) ratio (l .volume) (l .samples) (l .lent) grown k first kept-first (l .still) led-first (ready-rings p s n grown k first led-first e) i;
+        }))
 
     to-third : step second (recommendation (l .probability) (l .level)) .state ≡ canon grown
     unfolding withAppliedInputVolume initialize aggregated
@@ -133,4 +144,4 @@ module _ (p : Predictor.Settings) (s : Settings) (n : ℕ) (window : 1 ≤ p .wi
       let b-on : Kept p s n on = kept-step p s n (captureSwitch true) c b in
       after-append (l .body) _ on
       ∙ ending grownOf (acceptedIn n (l .body) + 0) (after on (l .body)) (kept-after p s n (l .body) on b-on)
-      (led-after p s n window ratio (l .body) (replicate n []) 0 on b-on (l .calm) (led-start p s n c b)) (omega (arith, l .long))
+      (led-after p s n (good .window-low) ratio (l .body) (replicate n []) 0 on b-on (l .calm) (led-start p s n c b)) (omega (arith, l .long))

@@ -120,7 +120,7 @@ module _ (p : Predictor.Settings) (s : Settings) (n : ℕ) where
   with-control : (control : Control) (c : Controller) → KeptControl s n control → K c → K (record { control = control; predictor = c .predictor })
   with-control control c kc k = record { control = kc; settings = k .settings; count = k .count; small = k .small }
 
-  kept-entered : (samples : ℕ) (lent : List Float) (c : Controller) → K c → K (record { control = c .control; predictor = enteredIf true samples lent (c .predictor) })
+  pub kept-entered : (samples : ℕ) (lent : List Float) (c : Controller) → K c → K (record { control = c .control; predictor = enteredIf true samples lent (c .predictor) })
   kept-entered samples lent c k = record {
     control = k .control;
     settings = k .settings;

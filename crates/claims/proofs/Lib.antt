@@ -38,6 +38,7 @@ pub mod Closed
 pub mod Runs
 pub mod Marked
 pub mod Closing
+pub mod Relaxed
 pub mod EveryMode
 pub mod Loudest
 pub mod QuietSamples
@@ -51,4 +52,5 @@ pub mod Inverse
 pub mod RunsExist
 pub mod Accepted
 pub mod Needed
+pub mod ExampleLines
 pub mod Claims

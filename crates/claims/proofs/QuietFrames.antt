@@ -1,13 +1,13 @@
--- A quiet frame with capture on: what it makes of the rings, and that it changes nothing else once enough frames were quiet. Assumes nothing.
-use mathlib.Core.Path.{_≡_, sym, ap, _∙_, subst}
-use mathlib.Core.List.{List}
+-- A quiet frame with capture on: what it makes of the rings, and that once enough frames were quiet it only enters them and ends the wait. Assumes nothing.
+use mathlib.Core.Path.{_≡_, refl, sym, ap, _∙_, subst}
+use mathlib.Core.List.{List, map}
 use mathlib.Core.Bool.{Bool, true, false}
-use Prim.Native.Nat.{ℕ, suc, _≤_, max}
+use Prim.Native.Nat.{ℕ, suc, _+_, _≤_, max}
 use native.Mathlib.Omega.{arith}
 use lib.Dec.{T, ltb}
 use lib.Ieee.{Float, le}
-use lib.ListN.{length}
-use borrow.Author.Tests.{ltb-false, le-ltb}
+use lib.ListN.{length, take}
+use borrow.Author.Tests.{ltb-true, ltb-false}
 use Rattle.numbers.specs.declared.natural.Natural.the-variants.{Number}
 use Rattle.numbers.proofs.Listed.{length-listed}
 use Rattle.clipping_predictor_level_buffer.specs.declared.level.Level.{Level}
@@ -17,6 +17,7 @@ use Rattle.clipping_predictor.specs.declared.settings.Settings as Predictor
 use Rattle.clipping_predictor.specs.Estimate.{capacityOf}
 use Rattle.clipping_predictor.specs.Predictor.{partOf, levelsOf, pushEach}
 use Rattle.mono_input_volume_controller.specs.declared.config.Settings.{Settings}
+use Rattle.input_volume_controller.specs.Control.{withSince}
 use Rattle.input_volume_controller.specs.ControlCalls.{aggregated, withAppliedInputVolume}
 use Rattle.input_volume_controller.specs.Controller.{Controller}
 use Rattle.input_volume_controller.specs.Reply.{Stepped}
@@ -25,10 +26,23 @@ use Rattle.input_volume_controller.specs.Frame.{askedOf, handleIf, unlessWaitin
 use Rattle.claims.specs.LeadIn.{all, isSound, isLow, quietFor}
 use Rattle.claims.proofs.Lists.{and-l, and-r}
 use Rattle.claims.proofs.Share.{ratio-not-above}
-use Rattle.claims.proofs.Kept.{Kept}
-use Rattle.claims.proofs.Rings.{grow, Match, match-push}
+use Rattle.claims.proofs.Kept.{Kept, kept-entered}
+use Rattle.claims.proofs.Rings.{grow, Match, match-push, match-full}
 use Rattle.claims.proofs.Silent.{none-predicted}
 use Rattle.claims.proofs.Led.{entered, Led, led-waiting}
+
+-- ---- the count of frames since clipping
+
+abbrev pub counting : ℕ → Controller → Controller
+counting since c = record { control = withSince since (c .control); predictor = c .predictor }
+
+-- a frame that is one short of the wait counts, and one after it predicts nothing: both leave the count at the wait
+waited : (t : Bool) (wait : ℕ) (c : Controller) → (t ≡ true → c .control .since + 1 ≡ wait) → (t ≡ false → c .control .since ≡ wait) → predictedBy (askedOf (c .control)) (c .predictor) .drop ≡ 0
+    → unlessWaiting t false c .state ≡ counting wait c
+waited true wait c f g z = ap (λ (x : ℕ). counting x c) (f refl)
+waited false wait c f g z = ap (λ (x : ℕ). handleIf (ltb 0 x) (max (c .control .settings .step) x) c) z ∙ ap (λ (x : ℕ). counting x c) (g refl)
+
+-- ---- the frame
 
 module _ (p : Predictor.Settings) (s : Settings) (n : ℕ) (window : 1 ≤ p .window) (ratio : T (le plusZero (s .«clipped_ratio»))) (volume samples : ℕ) (lent : List Float) where
   -- what such a frame does: its levels enter, and then it counts, or is tested
@@ -66,14 +80,21 @@ module _ (p : Predictor.Settings) (s : Settings) (n : ℕ) (window : 1 ≤ p .wi
         (led-waiting p s (grow (levelsOf n samples lent) grown) (suc k) (ltb (c .control .since) (c .control .settings .«clipped_wait»)) (suc (h .m)) (entered volume samples lent c)
         window (b .settings) (b .control .settings) (ltb-false (c .control .since) (c .control .settings .«clipped_wait»)) (h .on) (omega (arith, h .late)) rows (omega (arith, h .waited)))
 
-    -- where the count has reached the wait, and the window is all quiet
-    pub quiet-frame : p .window ≤ suc k → c .control .since ≡ s .«clipped_wait» → unlessRefused (Number volume) true samples lent c .state ≡ entered volume samples lent c
+    -- where one record more fills a ring
+    pub full-rings : capacityOf p ≤ suc (h .m) → entered volume samples lent c .predictor .rings ≡ map (take (capacityOf p)) (grow (levelsOf n samples lent) grown)
+    full-rings f =
+        match-full (isLow p) (capacityOf p) (suc (h .m)) (suc k) (entered volume samples lent c .predictor .rings) (grow (levelsOf n samples lent) grown) f
+        (kept-entered p s n samples lent c b .small) rows
+
+    -- where the count is at most one short of the wait, and the window is all quiet
+    pub quiet-frame : p .window ≤ suc k → s .«clipped_wait» ≤ suc (c .control .since)
+        → unlessRefused (Number volume) true samples lent c .state ≡ counting (s .«clipped_wait») (entered volume samples lent c)
     unfolding withAppliedInputVolume aggregated
     quiet-frame w e =
+        let since = c .control .since in
+        let wait = c .control .settings .«clipped_wait» in
+        let same : wait ≡ s .«clipped_wait» = ap (λ (x : Settings). x .«clipped_wait») (b .control .settings) in
         let d = entered volume samples lent c in
-        let z : predictedBy (askedOf (d .control)) (d .predictor) .drop ≡ 0 =
-        none-predicted p (askedOf (d .control)) (d .predictor) (capacityOf p) (suc (h .m)) (suc k) (grow (levelsOf n samples lent) grown) (b .settings) window w rows in
         ap (λ (r : Stepped). r .state) (frame-on c b (h .on) sound)
-        ∙ ap (λ (x : Bool). unlessWaiting x false d .state)
-        (le-ltb (c .control .since) (c .control .settings .«clipped_wait») (omega (arith, e, ap (λ (x : Settings). x .«clipped_wait») (b .control .settings))))
-        ∙ ap (λ (x : ℕ). handleIf (ltb 0 x) (max (c .control .settings .step) x) d) z
+        ∙ waited (ltb since wait) (s .«clipped_wait») d (λ t. omega (arith, ltb-true since wait t, same, e)) (λ t. omega (arith, ltb-false since wait t, same, b .control .early))
+        (none-predicted p (askedOf (d .control)) (d .predictor) (capacityOf p) (suc (h .m)) (suc k) (grow (levelsOf n samples lent) grown) (b .settings) window w rows)

@@ -15,9 +15,10 @@ use Rattle.claims.specs.ExactRun.{UnmarkedRunIsExact}
 use Rattle.claims.specs.TwoPasts.{TwoPasts, TwoPastsInEveryMode}
 use Rattle.claims.specs.InCode.{TwoPastsInCode}
 use Rattle.claims.specs.Made.{TwoPastsOfMakings}
-use Rattle.claims.specs.Sharp.{LeadInsExist, AcceptedIsNotRefused, TwoFewerAreTooFew}
+use Rattle.claims.specs.Sharp.{LeadInsExist, AcceptedIsNotRefused, OneFewerIsEnough, TwoFewerAreTooFew}
 use Rattle.claims.specs.Needed.{PartsAreNeeded}
 use Rattle.claims.specs.Starred.{StarredCases}
+use Rattle.claims.specs.ExampleLines.{ExampleLines}
 use Rattle.claims.specs.GainTable.{NeverFalls}
 use Rattle.claims.specs.Equal.{EqualChannels}
 use Rattle.claims.specs.None.{NoneExactly}
@@ -47,13 +48,16 @@ pub record Claims : Type 0 where
   pub two-pasts-in-code : TwoPastsInCode
   pub two-pasts-of-makings : TwoPastsOfMakings
   pub two-pasts-in-every-mode : TwoPastsInEveryMode
-  -- that claim is not empty, and asks for no more than it needs: lead-ins exist, two frames fewer do not do, and no part may be left out
+  -- that claim is not empty, and asks for one frame more than it needs, since the last one counts too: lead-ins exist, one frame fewer does, two do not, and no part may be left out
   pub lead-ins-exist : LeadInsExist
   pub accepted-is-not-refused : AcceptedIsNotRefused
+  pub one-fewer-is-enough : OneFewerIsEnough
   pub two-fewer-are-too-few : TwoFewerAreTooFew
   pub parts-are-needed : PartsAreNeeded
   -- the starred cases
   pub starred : StarredCases
+  -- the frame-line program's example: what it writes of its four lines
+  pub example-lines : ExampleLines
   -- the gain table never falls
   pub gains : NeverFalls
   -- after any calls all channels are equal, and the first controls

@@ -22,4 +22,5 @@ pub mod Exact
 pub mod Unmarked
 pub mod ExactRun
 pub mod Needed
+pub mod ExampleLines
 pub mod Claims

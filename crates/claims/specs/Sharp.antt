@@ -1,4 +1,4 @@
--- The claim `TwoPasts` says something: its words mean what the calls say, lead-ins exist, and two accepted frames fewer in one do not do. Definitions only.
+-- The claim `TwoPasts` says something: its words mean what the calls say, lead-ins exist, and while one accepted frame fewer in one does, two fewer do not. Definitions only.
 use mathlib.Core.Path.{_≡_}
 use mathlib.Core.Bool.{Bool, true, false, not}
 use mathlib.Core.List.{List}
@@ -6,15 +6,17 @@ use Prim.Native.Nat.{ℕ, _-_}
 use lib.IntN.{ℤ, pos}
 use lib.Ieee.{Float}
 use lib.ListN.{length}
+use Rattle.clipping_predictor.specs.declared.settings.Settings as Predictor
+use Rattle.clipping_predictor.specs.Settings as Predictors
 use Rattle.mono_input_volume_controller.specs.declared.config.Config.{Config}
 use Rattle.mono_input_volume_controller.specs.declared.config.Settings.{Settings}
 use Rattle.mono_input_volume_controller.specs.declared.config.Checked.the-variants.{InOrder}
 use Rattle.mono_input_volume_controller.specs.Config.{defaults, settingsOf}
-use Rattle.input_volume_controller.specs.Controller.{Controller, fresh}
+use Rattle.input_volume_controller.specs.Controller.{Controller, freshWith, fresh}
 use Rattle.input_volume_controller.specs.Reply.{Reply, mark, refusal, volume, none, done}
 use Rattle.input_volume_controller.specs.Calls.{frame, step}
-use Rattle.claims.specs.LeadIn.{accepts, acceptedIn, quiet, LeadIn, callsOf}
-use Rattle.claims.specs.TwoPasts.{AlikeAfter, RatioFromZero, enough}
+use Rattle.claims.specs.LeadIn.{accepts, acceptedIn, quiet, quietFor, LeadIn, callsOf}
+use Rattle.claims.specs.TwoPasts.{AlikeAfter, RatioFromZero, enough, enoughFor}
 
 abbrev pub isRefusal : Reply → Bool
 isRefusal (mark near) = false
@@ -32,6 +34,12 @@ AcceptedIsNotRefused =
 -- for all settings and every channel count there is a lead-in with exactly as many accepted frames as the claim asks
 abbrev pub LeadInsExist : Type 0
 LeadInsExist = (s : Settings) (channels : ℕ) → (l : LeadIn channels quiet (enough s)) × (acceptedIn channels (l .body) ≡ enough s)
+
+-- the frame after the initialise is quiet and enters the rings too, so with one accepted frame fewer before it the claim holds as well, and so does its general form
+pub record OneFewerIsEnough : Type 0 where
+  pub own : (s : Settings) (channels : ℕ) → RatioFromZero s → (l : LeadIn channels quiet (enough s - 1)) → AlikeAfter (fresh s channels) (callsOf channels quiet l)
+  pub in-every-mode : (p : Predictor.Settings) (s : Settings) (channels : ℕ) → Predictors.Good p → RatioFromZero s
+      → (l : LeadIn channels (quietFor p channels) (enoughFor p s - 1)) → AlikeAfter (freshWith p s channels) (callsOf channels (quietFor p channels) l)
 
 -- the default settings with another clipping wait
 abbrev pub waiting : ℕ → Config
