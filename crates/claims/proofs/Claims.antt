@@ -2,6 +2,7 @@
 use Rattle.claims.specs.Claims.{Claims}
 use Rattle.claims.proofs.Run.{runs-are-runs}
 use Rattle.claims.proofs.RunsExist.{runs-exist}
+use Rattle.claims.proofs.Library.{library-runs-are-runs}
 use Rattle.claims.proofs.Refused.{refused-calls}
 use Rattle.claims.proofs.Below.{refused-below}
 use Rattle.claims.proofs.Bounds.{bounds}
@@ -27,6 +28,7 @@ use Rattle.claims.proofs.None.{none-exactly}
 pub claims : Claims
 claims = record {
   runs = runs-are-runs;
+  library = library-runs-are-runs;
   runs-exist = runs-exist;
   refused = refused-calls;
   refused-below = refused-below;

@@ -50,6 +50,7 @@ pub mod TwoMakings
 pub mod Sane
 pub mod Inverse
 pub mod RunsExist
+pub mod Library
 pub mod Accepted
 pub mod Needed
 pub mod ExampleLines

@@ -4,6 +4,7 @@
 -- That every call is total, and hands its state back in good order, the contracts say by themselves. Definitions only.
 use Rattle.claims.specs.Run.{RunsAreRuns}
 use Rattle.claims.specs.RunsExist.{RunsExist}
+use Rattle.claims.specs.Library.{LibraryRunsAreRuns}
 use Rattle.claims.specs.Refused.{RefusedCalls}
 use Rattle.claims.specs.RefusedBelow.{RefusedBelow}
 use Rattle.claims.specs.Bounds.{Bounds}
@@ -26,6 +27,8 @@ use Rattle.claims.specs.None.{NoneExactly}
 pub record Claims : Type 0 where
   -- a run of the Rattle functions is a run of the definition
   pub runs : RunsAreRuns
+  -- and so is a sequence of the static library's calls, with its answers in numbers
+  pub library : LibraryRunsAreRuns
   -- and none of these is empty: every making hands something back, and from there every list of calls has a run
   pub runs-exist : RunsExist
   -- a refused call changes nothing, and its number is the first cause in the table's order that holds

@@ -18,6 +18,7 @@ pub mod Sharp
 pub mod InCode
 pub mod Made
 pub mod RunsExist
+pub mod Library
 pub mod Exact
 pub mod Unmarked
 pub mod ExactRun
