@@ -12,7 +12,7 @@ use Rattle.claims.proofs.Marked.{marked-exactly}
 use Rattle.claims.proofs.Unmarked.{unmarked-is-exact}
 use Rattle.claims.proofs.UnmarkedRun.{unmarked-run-is-exact}
 use Rattle.claims.proofs.TwoPasts.{two-pasts, one-fewer-is-enough}
-use Rattle.claims.proofs.InCode.{two-pasts-in-code}
+use Rattle.claims.proofs.InCode.{free-is-unheard, two-pasts-in-code}
 use Rattle.claims.proofs.TwoMakings.{two-pasts-of-makings}
 use Rattle.claims.proofs.EveryMode.{two-pasts-in-every-mode}
 use Rattle.claims.proofs.Exists.{lead-ins-exist}
@@ -30,6 +30,7 @@ claims = record {
   runs = runs-are-runs;
   library = library-runs-are-runs;
   runs-exist = runs-exist;
+  free = free-is-unheard;
   refused = refused-calls;
   refused-below = refused-below;
   bounds = bounds;

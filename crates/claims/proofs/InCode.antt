@@ -7,6 +7,7 @@ use Rattle.input_volume_controller.specs.declared.InputVolumeController.{InputV
 use Rattle.input_volume_controller.specs.Controller.{Controller, viewOf, Good, fresh}
 use Rattle.input_volume_controller.specs.Calls.{Call, after, answers}
 use Rattle.claims.specs.InCode.{Had, TwoPastsInCode}
+use Rattle.claims.specs.Free.{FreeIsUnheard}
 use Rattle.claims.proofs.Run.{runs-are-runs}
 use Rattle.claims.proofs.TwoPasts.{same-state}
 
@@ -16,8 +17,12 @@ had-view s channels calls c h = runs-are-runs _ _ _ _ (h .good) (h .run) .view �
 had-good : (s : Settings) (channels : ℕ) (calls : List Call) (c : InputVolumeController) → Had s channels calls c → Good c
 had-good s channels calls c h = runs-are-runs _ _ _ _ (h .good) (h .run) .good
 
+-- what is heard of a controller depends on its value alone
+pub free-is-unheard : FreeIsUnheard
+free-is-unheard a b good fine same calls one two c d r t = runs-are-runs _ _ _ _ good r .answered ∙ ap (λ (x : Controller). answers x calls) same ∙ sym (runs-are-runs _ _ _ _ fine t .answered)
+
 -- THE CLAIM, of the code
 pub two-pasts-in-code : TwoPastsInCode
 two-pasts-in-code s channels ratio l past other a b had has =
-    let same : viewOf a ≡ viewOf b = had-view s channels _ a had ∙ same-state s channels ratio l past other ∙ sym (had-view s channels _ b has) in
-    λ calls one two c d r t. runs-are-runs _ _ _ _ (had-good s channels _ a had) r .answered ∙ ap (λ (x : Controller). answers x calls) same ∙ sym (runs-are-runs _ _ _ _ (had-good s channels _ b has) t .answered)
+    free-is-unheard a b (had-good s channels _ a had) (had-good s channels _ b has)
+    (had-view s channels _ a had ∙ same-state s channels ratio l past other ∙ sym (had-view s channels _ b has))

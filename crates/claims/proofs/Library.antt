@@ -1,7 +1,6 @@
 -- A sequence of the static library's calls is a run of the controller. Assumes nothing.
-use mathlib.Core.Path.{_≡_, refl, sym, ap, _∙_}
+use mathlib.Core.Path.{_≡_, refl, sym, _∙_}
 use mathlib.Core.List.{List, [], _∷_}
-use Prim.Native.Nat.{ℕ}
 use native.Mathlib.Omega.{arith}
 use lib.IntN.{ℤ}
 use Rattle.numbers.specs.declared.refusal.Refusal.{Refusal}
@@ -10,16 +9,15 @@ use Rattle.numbers.specs.declared.refusal.Outcome.{Outcome}
 use Rattle.numbers.specs.declared.refusal.Outcome.the-variants as Outcome
 use Rattle.mono_input_volume_controller.specs.declared.config.Config.{Config}
 use Rattle.input_volume_controller.specs.Controller.{viewOf, Good, makingOf}
-use Rattle.input_volume_controller.specs.Control.{controlOf}
 use Rattle.input_volume_controller.specs.Reply.{Reply, done}
-use Rattle.input_volume_controller.specs.Calls.{Call, frame, recommendation, initialise, captureSwitch, Answer, step, Does}
+use Rattle.input_volume_controller.specs.Calls.{Call, frame, recommendation, initialise, captureSwitch, step, Does}
 use Rattle.input_volume_controller.proofs.Whole.{does-whole}
 use Rattle.agc2.specs.declared.answers.Agc2Controller.{Agc2Controller}
 use Rattle.agc2.specs.Answers.{outcomeNumber}
 use Rattle.agc2.specs.Whole.{wholeOf}
 use Rattle.agc2.specs.Calls.{CreatedOf}
 use Rattle.claims.specs.Run as Runs
-use Rattle.claims.specs.Library.{Numbers, ofFrame, ofRecommendation, nothing, inNumbers, LibraryCall, framed, recommended, initialised, switched, Heard, heardOf, LibraryRun, none, next, allInNumbers, RunsAs, MadeAs, LibraryRunsAreRuns}
+use Rattle.claims.specs.Library.{Numbers, ofFrame, ofRecommendation, inNumbers, LibraryCall, framed, recommended, initialised, switched, Heard, heardOf, LibraryRun, none, next, allInNumbers, RunsAs, MadeAs, LibraryRunsAreRuns}
 
 -- ---- one call
 

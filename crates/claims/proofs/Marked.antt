@@ -2,18 +2,17 @@
 use mathlib.Core.Path.{_≡_, refl, sym, ap, _∙_}
 use mathlib.Core.Bool.{Bool, true, false, not, _&&_, _||_}
 use mathlib.Core.List.{List, [], _∷_, map, foldl}
-use Prim.Native.Nat.{ℕ, zero, suc, _+_, _*_, _<_}
+use Prim.Native.Nat.{ℕ, zero, suc, _*_, _<_}
 use native.Mathlib.Omega.{arith}
 use native.Mathlib.Decide.{decLt}
 use lib.Dec.{T, leb, ltb}
 use lib.IntN.{ℤ, pos, natAbs, _-ℤ_}
-use lib.Signed.{leZ}
-use lib.Ieee.{Float, binary32, lt, le, add, mul, div, ofInt, ofBits}
+use lib.Ieee.{Float, lt, le, add, mul, div, ofInt, ofBits}
 use lib.ListN.{length}
-use borrow.Author.Tests.{leb-true, le-leb, lt-ltb, ltb-true}
+use borrow.Author.Tests.{leb-true, le-leb}
 use Rattle.numbers.specs.Listed.{listed}
 use Rattle.numbers.specs.declared.natural.Natural.{Natural}
-use Rattle.numbers.specs.declared.natural.Natural.the-variants.{Number, Outside}
+use Rattle.numbers.specs.declared.natural.Natural.the-variants.{Number}
 use Rattle.numbers.specs.Natural.{withinOf}
 use Rattle.numbers.proofs.Signs.{clash}
 use Rattle.levels.specs.declared.decibels.Decibels.{Decibels}
@@ -36,7 +35,7 @@ use Rattle.clipping_predictor.specs.declared.settings.Settings.{Settings}
 use Rattle.clipping_predictor.specs.declared.modes.Asked.{Asked}
 use Rattle.clipping_predictor.specs.declared.modes.Estimated.{Estimated}
 use Rattle.clipping_predictor.specs.Tree.{Tree, leaf, test, reached, marked}
-use Rattle.clipping_predictor.specs.Estimate.{dropBy, adaptiveDrop, crestFactor, wholeDb, maxGainChange, nearestWhole, projectedPeak, peakTree, adaptiveTree, aboveTree, ceilingTree, modeTree, windowsTree, unlessLow, capacityOf, estimateTree, estimated}
+use Rattle.clipping_predictor.specs.Estimate.{dropBy, adaptiveDrop, crestFactor, wholeDb, nearestWhole, projectedPeak, peakTree, adaptiveTree, aboveTree, ceilingTree, modeTree, windowsTree, unlessLow, capacityOf, estimateTree, estimated}
 use Rattle.clipping_predictor.specs.Predictor.{Predictor, pushEach, frameFits, enteredIf}
 use Rattle.clipping_predictor.specs.AllRings.{noEstimate, joined, predictedBy}
 use Rattle.clipping_predictor.proofs.Paths.{or-false}
@@ -55,7 +54,7 @@ use Rattle.input_volume_controller.specs.Frame.{askedOf, unlessWaiting, ifUsed,
 use Rattle.input_volume_controller.specs.Recommendation.{recommendIf, unlessNone, recommendInputVolume}
 use Rattle.input_volume_controller.specs.Calls.{after, step, frame, recommendation}
 use Rattle.claims.specs.LeadIn.{isNumber, accepts}
-use Rattle.claims.specs.Marked.{Reached, compared, ceilingOf, reachedIf, peakThen, projectedThen, modeReaches, windowsReach, estimateReaches, nearWhole, isNear, any, estimateMarked, waitIsOver, frameMarked, tenthReply, MarkedExactly}
+use Rattle.claims.specs.Marked.{Reached, compared, ceilingOf, reachedIf, projectedThen, modeReaches, windowsReach, estimateReaches, nearWhole, isNear, any, estimateMarked, waitIsOver, frameMarked, tenthReply, MarkedExactly}
 use Rattle.claims.proofs.Lists.{and-l, and-r, is-true}
 use Rattle.claims.proofs.Runs.{number-is}
 

@@ -2,16 +2,14 @@
 -- capacity. Assumes nothing.
 use mathlib.Core.Path.{_≡_, _∙_}
 use mathlib.Core.Bool.{Bool, true, false, _||_}
-use mathlib.Core.List.{List, [], _∷_, map}
-use Prim.Native.Nat.{ℕ, zero, suc, _+_, _≤_, _<_, max, zero-le}
-use native.Mathlib.Nat.{not-suc-le-zero, le-of-suc-le-suc}
+use mathlib.Core.List.{List, [], _∷_}
+use Prim.Native.Nat.{ℕ, _+_, _≤_, max, zero-le}
 use native.Mathlib.Omega.{arith}
 use lib.Dec.{ltb}
 use lib.Ieee.{Float, lt}
-use lib.ListN.{length, getD, length-take, length-map, replicate}
+use lib.ListN.{length, length-take, length-map}
 use Rattle.numbers.specs.declared.natural.Natural.{Natural}
 use Rattle.numbers.specs.declared.natural.Natural.the-variants.{Number, Outside}
-use Rattle.numbers.specs.Listed.{listed}
 use Rattle.numbers.specs.Natural.{withinOf}
 use Rattle.clipping_predictor_level_buffer.specs.declared.level.Level.{Level}
 use Rattle.clipping_predictor.specs.declared.modes.Estimated.{Estimated}

@@ -1,14 +1,13 @@
 -- Two pasts, of controllers from their making on. Assumes nothing.
-use mathlib.Core.Path.{_≡_, sym, ap, _∙_, subst}
+use mathlib.Core.Path.{_≡_, sym, _∙_, subst}
 use mathlib.Core.List.{List}
 use Prim.Native.Nat.{ℕ}
-use lib.Dec.{T}
 use lib.IntN.{pos}
 use Rattle.numbers.specs.declared.refusal.Outcome.the-variants.{Accepted}
 use Rattle.mono_input_volume_controller.specs.declared.config.Config.{Config}
 use Rattle.mono_input_volume_controller.specs.Config.{settingsFrom}
 use Rattle.input_volume_controller.specs.declared.InputVolumeController.{InputVolumeController}
-use Rattle.input_volume_controller.specs.Controller.{Controller, makingOf, fresh}
+use Rattle.input_volume_controller.specs.Controller.{Controller, makingOf}
 use Rattle.input_volume_controller.specs.Calls.{Call, Answer}
 use Rattle.claims.specs.LeadIn.{quiet, LeadIn, callsOf}
 use Rattle.claims.specs.TwoPasts.{AlikeAfter, RatioFromZero, enough}

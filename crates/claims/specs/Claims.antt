@@ -4,6 +4,7 @@
 -- That every call is total, and hands its state back in good order, the contracts say by themselves. Definitions only.
 use Rattle.claims.specs.Run.{RunsAreRuns}
 use Rattle.claims.specs.RunsExist.{RunsExist}
+use Rattle.claims.specs.Free.{FreeIsUnheard}
 use Rattle.claims.specs.Library.{LibraryRunsAreRuns}
 use Rattle.claims.specs.Refused.{RefusedCalls}
 use Rattle.claims.specs.RefusedBelow.{RefusedBelow}
@@ -31,6 +32,8 @@ pub record Claims : Type 0 where
   pub library : LibraryRunsAreRuns
   -- and none of these is empty: every making hands something back, and from there every list of calls has a run
   pub runs-exist : RunsExist
+  -- what the contracts leave free (tails, unused places, rings and channels past the count) is heard in no answer of any later call
+  pub free : FreeIsUnheard
   -- a refused call changes nothing, and its number is the first cause in the table's order that holds
   pub refused : RefusedCalls
   -- and so say the calls of the crates below
@@ -43,7 +46,8 @@ pub record Claims : Type 0 where
   pub levels : LevelsWithinTwo
   -- an estimate is marked exactly if a comparison that it reached was near, a frame exactly if one of its estimates is, a recommendation never
   pub marked : MarkedExactly
-  -- an estimate without a near mark decides as exact logarithms would, and a run without one goes as they would have it go
+  -- an estimate without a near mark decides as exact logarithms would, and a run without one goes as they would have it go. Exact are the logarithms: means and peaks are the rounded floats that the
+  -- definition asks for, and a value at 1 or below counts as 1
   pub unmarked : UnmarkedIsExact
   pub unmarked-run : UnmarkedRunIsExact
   -- two controllers with equal settings cannot be told apart after the same lead-in, whatever their pasts: of the definitions, of the code, from the making on, and for every predictor

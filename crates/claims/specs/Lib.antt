@@ -16,6 +16,7 @@ pub mod LeadIn
 pub mod TwoPasts
 pub mod Sharp
 pub mod InCode
+pub mod Free
 pub mod Made
 pub mod RunsExist
 pub mod Library
