@@ -5,6 +5,7 @@ use Prim.Native.Nat.{ℕ}
 use native.Mathlib.Omega.{arith}
 use lib.IntN.{ℤ}
 use lib.Ieee.{Float}
+use Rattle.numbers.specs.Said.{outcomeSays}
 use Rattle.numbers.specs.declared.refusal.Refusal.{Refusal}
 use Rattle.mono_input_volume_controller.specs.declared.config.Config.{Config}
 use Rattle.input_volume_controller.specs.declared.Analysis.{Analysis}
@@ -53,7 +54,7 @@ does {q} {s} {c} d {call} {says} w e h =
 
 -- ---- a making
 
-pub created : {channels : ℤ} {config : Config} (m : Created) {n : ℕ} {r : Agc2Controller} → n ≡ outcomeNumber (m .answer) → r ≡ besideOf n 0 (m .controller) → Making.CreatedOf channels config m → CreatedOf channels config r
+pub created : {channels : ℤ} {config : Config} (m : Created) {n : ℕ} {r : Agc2Controller} → n ≡ outcomeNumber (outcomeSays (m .answer)) → r ≡ besideOf n 0 (m .controller) → Making.CreatedOf channels config m → CreatedOf channels config r
 created {channels} {config} m {n} {r} f e h =
     subst (λ (x : Agc2Controller). CreatedOf channels config x) (sym e)
     (record { refusal = f ∙ ap outcomeNumber (h .answer); near = refl; unanswered = record { present = refl; volume = refl }; becomes = becomes n 0 (m .controller) (h .good) (h .view) })

@@ -2,9 +2,7 @@
 use Prim.Native.Nat.{ℕ, zero, suc}
 use lib.IntN.{ℤ, pos}
 use lib.Ieee.{Float, binary32, ofBits}
-use Rattle.numbers.specs.Refusal.{numberOf}
-use Rattle.numbers.specs.declared.refusal.Outcome.{Outcome}
-use Rattle.numbers.specs.declared.refusal.Outcome.the-variants as Outcome
+use Rattle.numbers.specs.Said.{Said, accepted, refused}
 use Rattle.clipping_predictor_level_buffer.specs.declared.Stored.{Stored}
 use Rattle.clipping_predictor_level_buffer.specs.declared.Stored.the-variants.{Record, Missing}
 use Rattle.mono_input_volume_controller.specs.declared.speech_level.SpeechLevel.{SpeechLevel}
@@ -15,9 +13,9 @@ use Rattle.agc2.specs.declared.answers.FrameNumbers.{FrameNumbers}
 use Rattle.agc2.specs.declared.answers.VolumeNumbers.{VolumeNumbers}
 use Rattle.agc2.specs.Flag.{flagOf}
 
-abbrev pub outcomeNumber : Outcome → ℕ
-outcomeNumber Outcome.Accepted = 0
-outcomeNumber (Outcome.Refused cause) = numberOf cause
+abbrev pub outcomeNumber : Said (Unit {0}) → ℕ
+outcomeNumber (accepted values) = 0
+outcomeNumber (refused number) = number
 
 -- "a frame's mark or refusal number"
 abbrev pub frameNumbers : Reply → FrameNumbers

@@ -4,6 +4,7 @@ use mathlib.Core.List.{List}
 use Prim.Native.Nat.{ℕ}
 use lib.IntN.{ℤ, pos}
 use lib.Ieee.{Float}
+use Rattle.numbers.specs.Said.{outcomeSays}
 use Rattle.mono_input_volume_controller.specs.declared.config.Config.{Config}
 use Rattle.mono_input_volume_controller.specs.declared.speech_level.SpeechLevel.{SpeechLevel}
 use Rattle.input_volume_controller.specs.declared.volume_control.VolumeControl.{VolumeControl}
@@ -24,7 +25,7 @@ pub record Unanswered (c : Agc2Control) : Type 0 where
   pub volume : c .volume ≡ pos 0
 
 pub record CreatedOf (channels : ℤ) (config : Config) (r : Agc2Controller) : Type 0 where
-  pub refusal : r .refusal ≡ outcomeNumber (makingOf channels config .answer)
+  pub refusal : r .refusal ≡ outcomeNumber (outcomeSays (makingOf channels config .answer))
   pub near : r .near ≡ 0
   pub unanswered : Unanswered (r .control)
   pub becomes : Becomes (makingOf channels config .controller) (wholeOf r)

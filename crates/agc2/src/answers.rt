@@ -1,6 +1,7 @@
 // What the calls say, in numbers, with the state that each hands back.
 ghost use mathlib.Core.Path.{_≡_};
 ghost use Rattle.input_volume_controller.specs.Reply.{analysisSays, recommendationSays};
+ghost use Rattle.numbers.specs.Said.{outcomeSays};
 ghost use Rattle.agc2.specs.Answers.{outcomeNumber, frameNumbers, volumeNumbers, recordOf, speechLevelOf};
 use crate::flag::flag_of;
 use clipping_predictor_level_buffer::Stored;
@@ -49,7 +50,7 @@ pub struct VolumeNumbers {
 }
 
 pub fn outcome_number(answer: Outcome) -> u32
-    ensures { λ r. ⌜ r ≡ outcomeNumber answer ⌝ }
+    ensures { λ r. ⌜ r ≡ outcomeNumber (outcomeSays answer) ⌝ }
 {
     match answer {
         Outcome::Accepted => 0,

@@ -14,18 +14,24 @@ use borrow.Author.Tests.{leb-true, leb-false, le-leb, lt-leb, le-ltb}
 use Rattle.numbers.specs.declared.natural.Natural.{Natural}
 use Rattle.numbers.specs.declared.natural.Natural.the-variants.{Number, Outside}
 use Rattle.numbers.specs.Natural.{withinOf}
-use Rattle.gain_map.specs.VolumeUpdate.{reached, walk, stepped, volumeUpdateOf}
+use Rattle.numbers.specs.Said.{refusalIn, outcomeSays}
+use Rattle.gain_map.specs.VolumeUpdate.{updateSays, reached, walk, stepped, volumeUpdateOf}
 use Rattle.clipping_predictor_level_buffer.specs.declared.level.Level.{Level}
 use Rattle.clipping_predictor_level_buffer.specs.declared.Metrics.{Metrics}
-use Rattle.clipping_predictor_level_buffer.specs.Level.{maxSamplesPerChannel, measuredIf, measureOf}
+use Rattle.clipping_predictor_level_buffer.specs.Level.{maxSamplesPerChannel, measuredSays, measuredIf, measureOf}
 use Rattle.clipping_predictor_level_buffer.specs.Making as Ring
 use Rattle.clipping_predictor_level_buffer.specs.Ring.{maxCapacity}
-use Rattle.clipping_predictor_level_buffer.specs.Metrics.{foundIf, metricsIf, partialMetrics, computePartialMetrics}
+use Rattle.clipping_predictor_level_buffer.specs.Metrics.{metricsSays, foundIf, metricsIf, partialMetrics, computePartialMetrics}
 use Rattle.clipping_predictor.specs.Predictor.{Predictor, frameFits, outcomeIf, enteredIf}
+use Rattle.mono_input_volume_controller.specs.declared.speech_level.SpeechLevel.{SpeechLevel}
+use Rattle.mono_input_volume_controller.specs.declared.speech_level.RmsError.{RmsError}
+use Rattle.mono_input_volume_controller.specs.declared.speech_level.RmsError.the-variants.{NoError, Db}
+use Rattle.mono_input_volume_controller.specs.SpeechLevel.{lowestDb, highestDb, rmsErrorOf}
+use Rattle.mono_input_volume_controller.specs.Config.{bothInRange}
+use Rattle.mono_input_volume_controller.specs.SpeechError.{speechErrorSays, errorIfInRange, speechErrorOf}
 use Rattle.claims.specs.Causes.{Cause, firstOf}
-use Rattle.claims.specs.Refused.{unmadeBy}
-use Rattle.claims.specs.RefusedBelow.{notSteppedBy, notMeasuredBy, notLeveledBy, volumeStepCauses, predictorFrameCauses, levelCauses, ringCauses, metricsCauses, RefusedBelow}
-use Rattle.claims.proofs.Causes.{less-is, above-is, either, or-true, isOutside, within-is, misfit-is}
+use Rattle.claims.specs.RefusedBelow.{volumeStepCauses, predictorFrameCauses, levelCauses, ringCauses, metricsCauses, targetCauses, RefusedBelow}
+use Rattle.claims.proofs.Causes.{less-is, above-is, either, or-true, one-outside-is, isOutside, within-is, misfit-is}
 use Rattle.claims.proofs.BelowMaking.{predictor-first}
 use Rattle.claims.proofs.BelowEstimates.{estimate-first}
 
@@ -38,12 +44,12 @@ only n a = record { number = n; holds = a } ∷ []
 abbrev twoEightTen : Bool → Bool → Bool → List Cause
 twoEightTen a b c = record { number = 2; holds = a } ∷ record { number = 8; holds = b } ∷ record { number = 10; holds = c } ∷ []
 
-reached-first : (t : Bool) (v : ℕ) → notSteppedBy (reached t v) ≡ firstOf (twoEightTen false false (not t))
+reached-first : (t : Bool) (v : ℕ) → refusalIn (updateSays (reached t v)) ≡ firstOf (twoEightTen false false (not t))
 reached-first true v = refl
 reached-first false v = refl
 
 stepped-first : (wanted volume max : ℤ) (a b c : Natural) → withinOf 0 255 volume ≡ b → withinOf 0 255 max ≡ c
-    → notSteppedBy (stepped wanted a b c) ≡ firstOf (twoEightTen (isOutside a) (isOutside b) (isOutside c || ltZ max volume))
+    → refusalIn (updateSays (stepped wanted a b c)) ≡ firstOf (twoEightTen (isOutside a) (isOutside b) (isOutside c || ltZ max volume))
 unfolding stepped
 stepped-first wanted volume max Outside b c p q = refl
 stepped-first wanted volume max (Number m) Outside c p q = refl
@@ -51,7 +57,7 @@ stepped-first wanted volume max (Number m) (Number v) Outside p q = refl
 stepped-first wanted volume max (Number m) (Number v) (Number x) p q =
     reached-first (leb v x) (walk wanted v m x) ∙ ap (λ (t : Bool). firstOf (twoEightTen false false t)) (sym (above-is max volume x v q p))
 
-step-first : (wanted volume min max : ℤ) → notSteppedBy (volumeUpdateOf wanted volume min max) ≡ firstOf (volumeStepCauses volume min max)
+step-first : (wanted volume min max : ℤ) → refusalIn (updateSays (volumeUpdateOf wanted volume min max)) ≡ firstOf (volumeStepCauses volume min max)
 unfolding volumeUpdateOf
 step-first wanted volume min max =
     stepped-first wanted volume max (withinOf 0 255 min) (withinOf 0 255 volume) (withinOf 0 255 max) refl refl
@@ -59,22 +65,22 @@ step-first wanted volume min max =
 
 -- ---- a frame's size, and a level
 
-outcome-first : (t : Bool) → unmadeBy (outcomeIf t) ≡ firstOf (only 9 (not t))
+outcome-first : (t : Bool) → refusalIn (outcomeSays (outcomeIf t)) ≡ firstOf (only 9 (not t))
 outcome-first true = refl
 outcome-first false = refl
 
-frame-first : (channels samples : ℕ) (lent : List Float) → unmadeBy (outcomeIf (frameFits channels samples lent)) ≡ firstOf (predictorFrameCauses channels samples lent)
+frame-first : (channels samples : ℕ) (lent : List Float) → refusalIn (outcomeSays (outcomeIf (frameFits channels samples lent))) ≡ firstOf (predictorFrameCauses channels samples lent)
 frame-first channels samples lent = outcome-first (frameFits channels samples lent) ∙ ap (λ (t : Bool). firstOf (only 9 t)) (sym (misfit-is channels samples lent))
 
-outcome-same : (t : Bool) (p : Predictor) (samples : ℕ) (lent : List Float) (number : ℕ) → unmadeBy (outcomeIf t) ≡ some number → enteredIf t samples lent p ≡ p
+outcome-same : (t : Bool) (p : Predictor) (samples : ℕ) (lent : List Float) (number : ℕ) → refusalIn (outcomeSays (outcomeIf t)) ≡ some number → enteredIf t samples lent p ≡ p
 outcome-same true p samples lent number e = let z : _≡_ {A = ℕ} 0 1 = cc in absurd (omega arith)
 outcome-same false p samples lent number e = refl
 
-measured-first : (t : Bool) (samples : List Float) → notLeveledBy (measuredIf t samples) ≡ firstOf (only 9 (not t))
+measured-first : (t : Bool) (samples : List Float) → refusalIn (measuredSays (measuredIf t samples)) ≡ firstOf (only 9 (not t))
 measured-first true samples = refl
 measured-first false samples = refl
 
-level-first : (samples : List Float) → notLeveledBy (measureOf samples) ≡ firstOf (levelCauses samples)
+level-first : (samples : List Float) → refusalIn (measuredSays (measureOf samples)) ≡ firstOf (levelCauses samples)
 unfolding measureOf
 level-first samples =
     let n = length samples in
@@ -83,7 +89,7 @@ level-first samples =
 
 -- ---- the ring
 
-accepted-first : (t : Bool) → unmadeBy (Ring.acceptedIf t) ≡ firstOf (only 11 (not t))
+accepted-first : (t : Bool) → refusalIn (outcomeSays (Ring.acceptedIf t)) ≡ firstOf (only 11 (not t))
 accepted-first true = refl
 accepted-first false = refl
 
@@ -95,26 +101,38 @@ one-by n false e = lt-leb (max 1 n) maxCapacity (omega (arith, leb-false n 64 e)
 at-least-one : (n : ℕ) → leb (max 1 n) maxCapacity ≡ leb n 64
 at-least-one n = one-by n (leb n 64) refl
 
-ring-first : (capacity : ℤ) → unmadeBy (Ring.makingOf (Ring.capacityOf capacity)) ≡ firstOf (ringCauses capacity)
+ring-first : (capacity : ℤ) → refusalIn (outcomeSays (Ring.makingOf (Ring.capacityOf capacity))) ≡ firstOf (ringCauses capacity)
 unfolding Ring.makingOf Ring.capacityOf
 ring-first (pos n) = accepted-first (leb (max 1 n) maxCapacity) ∙ ap (λ (t : Bool). firstOf (only 11 t)) (ap not (at-least-one n) ∙ sym (less-is n 64))
 ring-first (negsuc n) = refl
 
-found-accepted : (t : Bool) (items : List Level) → notMeasuredBy (foundIf t items) ≡ none
+found-accepted : (t : Bool) (items : List Level) → refusalIn (metricsSays (foundIf t items)) ≡ none
 found-accepted true items = refl
 found-accepted false items = refl
 
-metrics-if : (t : Bool) (m : Metrics) → notMeasuredBy m ≡ none → notMeasuredBy (metricsIf t m) ≡ firstOf (only 11 (not t))
+metrics-if : (t : Bool) (m : Metrics) → refusalIn (metricsSays m) ≡ none → refusalIn (metricsSays (metricsIf t m)) ≡ firstOf (only 11 (not t))
 metrics-if true m e = e
 metrics-if false m e = refl
 
-metrics-first : (capacity : ℕ) (stored : List Level) (delay items : ℤ) → notMeasuredBy (computePartialMetrics capacity stored delay items) ≡ firstOf (metricsCauses capacity delay items)
+metrics-first : (capacity : ℕ) (stored : List Level) (delay items : ℤ) → refusalIn (metricsSays (computePartialMetrics capacity stored delay items)) ≡ firstOf (metricsCauses capacity delay items)
 unfolding computePartialMetrics partialMetrics
 metrics-first capacity stored (negsuc d) items = refl
 metrics-first capacity stored (pos d) (negsuc n) = ap (λ (t : Bool). firstOf (only 11 t)) (sym (or-true (ltb d 0)))
 metrics-first capacity stored (pos d) (pos n) =
     metrics-if (leb 1 n && leb (d + n) capacity) _ (found-accepted (leb (d + n) (length stored)) (take n (drop d stored)))
     ∙ ap (λ (t : Bool). firstOf (only 11 t)) (sym ((λ i. le-ltb d 0 zero-le i || (less-is 1 n i || less-is (d + n) capacity i)) ∙ either (leb 1 n) (leb (d + n) capacity)))
+
+-- ---- the speech error
+
+error-first : (t : Bool) (error : RmsError) → refusalIn (speechErrorSays (errorIfInRange t error)) ≡ firstOf (only 5 (not t))
+error-first true (Db error) = refl
+error-first true NoError = refl
+error-first false error = refl
+
+speech-error-first : (level : SpeechLevel) (min max : ℤ) → refusalIn (speechErrorSays (speechErrorOf level min max)) ≡ firstOf (targetCauses min max)
+unfolding speechErrorOf
+speech-error-first level min max =
+    error-first (bothInRange lowestDb highestDb max min) (rmsErrorOf level min max) ∙ ap (λ (t : Bool). firstOf (only 5 t)) (sym (one-outside-is lowestDb highestDb max min))
 
 pub refused-below : RefusedBelow
 refused-below = record {
@@ -126,4 +144,5 @@ refused-below = record {
   level = level-first;
   ring-making = ring-first;
   metrics = metrics-first;
+  speech-error = speech-error-first;
 }

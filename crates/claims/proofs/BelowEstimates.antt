@@ -12,21 +12,22 @@ use lib.ListN.{getD}
 use Rattle.numbers.specs.declared.natural.Natural.{Natural}
 use Rattle.numbers.specs.declared.natural.Natural.the-variants.{Number, Outside}
 use Rattle.numbers.specs.Natural.{withinOf}
+use Rattle.numbers.specs.Said.{refusalIn}
 use Rattle.clipping_predictor.specs.Estimate.{estimateTree, estimated}
-use Rattle.clipping_predictor.specs.Predictor.{Predictor, dropOr, givenIf, given, argumentsOf, estimateOf}
+use Rattle.clipping_predictor.specs.Predictor.{Predictor, dropOr, givenIf, given, argumentsOf, estimateSays, estimateOf}
 use Rattle.clipping_predictor.specs.declared.modes.Asked.{Asked}
 use Rattle.claims.specs.Causes.{Cause, firstOf, outside}
-use Rattle.claims.specs.RefusedBelow.{notEstimatedBy, estimateCauses}
+use Rattle.claims.specs.RefusedBelow.{estimateCauses}
 use Rattle.claims.proofs.Causes.{above-is, or-assoc, isOutside, within-is}
 
 abbrev eightTen : Bool → Bool → List Cause
 eightTen a b = record { number = 8; holds = a } ∷ record { number = 10; holds = b } ∷ []
 
-drop-accepted : (n : ℕ) (near : Bool) → notEstimatedBy (dropOr n near) ≡ none
+drop-accepted : (n : ℕ) (near : Bool) → refusalIn (estimateSays (dropOr n near)) ≡ none
 drop-accepted zero near = refl
 drop-accepted (suc n) near = refl
 
-given-first : (p : Predictor) (a b : Bool) (channel : ℕ) (q : Asked) → notEstimatedBy (estimateOf p (givenIf (a && b) channel q)) ≡ firstOf (eightTen false (not a || not b))
+given-first : (p : Predictor) (a b : Bool) (channel : ℕ) (q : Asked) → refusalIn (estimateSays (estimateOf p (givenIf (a && b) channel q))) ≡ firstOf (eightTen false (not a || not b))
 unfolding estimateOf
 given-first p true true channel q = let e = estimated (estimateTree (p .settings) (getD (p .rings) channel []) q) in drop-accepted (e .drop) (e .near)
 given-first p true false channel q = refl
@@ -34,7 +35,7 @@ given-first p false b channel q = refl
 
 module _ (p : Predictor) (level min max : ℤ) where
   estimate-given : (l ch st mn mx : Natural) → withinOf 0 255 level ≡ l → withinOf 0 255 min ≡ mn → withinOf 0 255 max ≡ mx
-      → notEstimatedBy (estimateOf p (given l ch st mn mx)) ≡ firstOf (eightTen (isOutside l) (isOutside ch || (isOutside st || (isOutside mn || (isOutside mx || (ltZ max min || ltZ max level))))))
+      → refusalIn (estimateSays (estimateOf p (given l ch st mn mx))) ≡ firstOf (eightTen (isOutside l) (isOutside ch || (isOutside st || (isOutside mn || (isOutside mx || (ltZ max min || ltZ max level))))))
   unfolding estimateOf given
   estimate-given Outside ch st mn mx e f g = refl
   estimate-given (Number l) Outside st mn mx e f g = refl
@@ -52,7 +53,7 @@ unknown-is (suc n) (pos c) h = let e : n ≡ suc n - 1 = omega arith in ap (λ (
 unknown-is (suc n) (negsuc c) h = refl
 
 pub estimate-first : (p : Predictor) (channels : ℕ) (channel level step min max : ℤ) → 1 ≤ channels
-    → notEstimatedBy (estimateOf p (argumentsOf channels channel level step min max)) ≡ firstOf (estimateCauses channels channel level step min max)
+    → refusalIn (estimateSays (estimateOf p (argumentsOf channels channel level step min max))) ≡ firstOf (estimateCauses channels channel level step min max)
 unfolding argumentsOf
 estimate-first p channels channel level step min max h =
     let rest = outside (pos 1) (pos 255) step || (outside (pos 0) (pos 255) min || (outside (pos 0) (pos 255) max || (ltZ max min || ltZ max level))) in

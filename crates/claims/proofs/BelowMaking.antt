@@ -16,7 +16,7 @@ use Rattle.clipping_predictor.specs.declared.settings.Settings.{Settings}
 use Rattle.clipping_predictor.specs.Settings.{maxLevel, levelsInRange, windowsInOrder, inOrderIf, checked, settingsOf}
 use Rattle.clipping_predictor.specs.Predictor.{maxChannels, madeOf, makingOf}
 use Rattle.claims.specs.Causes.{Cause, firstOf, outside}
-use Rattle.claims.specs.Refused.{unmadeBy}
+use Rattle.numbers.specs.Said.{refusalIn, outcomeSays}
 use Rattle.claims.specs.RefusedBelow.{windowsOut, levelsOut, predictorCauses}
 use Rattle.claims.proofs.Causes.{less-is, either, or-true, or-false, isOutside, within-is}
 
@@ -114,14 +114,14 @@ levels-is threshold margin = (λ i. level-is threshold i || level-is margin i) �
 abbrev oneSeven : Bool → Bool → List Cause
 oneSeven a b = record { number = 1; holds = a } ∷ record { number = 7; holds = b } ∷ []
 
-in-order-first : (n : ℕ) (a b : Bool) (s : Settings) → unmadeBy (madeOf (Number n) (inOrderIf (a && b) s) .answer) ≡ firstOf (oneSeven false (not a || not b))
+in-order-first : (n : ℕ) (a b : Bool) (s : Settings) → refusalIn (outcomeSays (madeOf (Number n) (inOrderIf (a && b) s) .answer)) ≡ firstOf (oneSeven false (not a || not b))
 unfolding madeOf
 in-order-first n true true s = refl
 in-order-first n true false s = refl
 in-order-first n false b s = refl
 
 made-first : (channels w r d : Natural) (c : ClippingPredictorConfig)
-    → unmadeBy (madeOf channels (checked w r d c) .answer) ≡ firstOf (oneSeven (isOutside channels) (notInOrder w r d || not (levelsInRange (c .«clipping_threshold») (c .«crest_factor_margin»))))
+    → refusalIn (outcomeSays (madeOf channels (checked w r d c) .answer)) ≡ firstOf (oneSeven (isOutside channels) (notInOrder w r d || not (levelsInRange (c .«clipping_threshold») (c .«crest_factor_margin»))))
 unfolding madeOf checked
 made-first Outside w r d c = refl
 made-first (Number n) Outside r d c = refl
@@ -129,7 +129,7 @@ made-first (Number n) (Number w) Outside d c = refl
 made-first (Number n) (Number w) (Number r) Outside c = refl
 made-first (Number n) (Number w) (Number r) (Number d) c = in-order-first n (windowsInOrder w r d) (levelsInRange (c .«clipping_threshold») (c .«crest_factor_margin»)) _
 
-pub predictor-first : (channels : ℤ) (config : ClippingPredictorConfig) → unmadeBy (makingOf channels config .answer) ≡ firstOf (predictorCauses channels config)
+pub predictor-first : (channels : ℤ) (config : ClippingPredictorConfig) → refusalIn (outcomeSays (makingOf channels config .answer)) ≡ firstOf (predictorCauses channels config)
 unfolding makingOf settingsOf
 predictor-first channels c =
     made-first (withinOf 1 maxChannels channels) (withinOf 1 64 (c .«window_length»)) (withinOf 1 64 (c .«reference_window_length»)) (withinOf 0 64 (c .«reference_window_delay»)) c

@@ -7,6 +7,7 @@ use Rattle.numbers.specs.declared.refusal.Refusal.{Refusal}
 use Rattle.numbers.specs.declared.refusal.Refusal.the-variants.{ChannelCount, MinimumVolume, ClippedLevelStep, WaitFrames, TargetRange, SpeechThreshold, PredictorConfig, InputVolume, FrameSize, EstimateRange, RingRange, FrameLine}
 use Rattle.numbers.specs.declared.refusal.Outcome.{Outcome}
 use Rattle.numbers.specs.declared.refusal.Outcome.the-variants as Outcome
+use Rattle.numbers.specs.Said.{outcomeSays}
 use Rattle.mono_input_volume_controller.specs.declared.config.Config.{Config}
 use Rattle.input_volume_controller.specs.Controller.{viewOf, Good, makingOf}
 use Rattle.input_volume_controller.specs.Reply.{Reply, done}
@@ -57,7 +58,7 @@ runs-as good (next {d = d} one rest) =
 -- ---- the making
 
 -- no refusal has the number 0
-refused-not-zero : (cause : Refusal) → outcomeNumber (Outcome.Refused cause) ≡ 0 → ⊥
+refused-not-zero : (cause : Refusal) → outcomeNumber (outcomeSays (Outcome.Refused cause)) ≡ 0 → ⊥
 refused-not-zero ChannelCount e = omega arith
 refused-not-zero MinimumVolume e = omega arith
 refused-not-zero ClippedLevelStep e = omega arith
@@ -71,7 +72,7 @@ refused-not-zero EstimateRange e = omega arith
 refused-not-zero RingRange e = omega arith
 refused-not-zero FrameLine e = omega arith
 
-accepted-at-zero : (answer : Outcome) → outcomeNumber answer ≡ 0 → answer ≡ Outcome.Accepted
+accepted-at-zero : (answer : Outcome) → outcomeNumber (outcomeSays answer) ≡ 0 → answer ≡ Outcome.Accepted
 accepted-at-zero Outcome.Accepted e = refl
 accepted-at-zero (Outcome.Refused cause) e = absurd (refused-not-zero cause e)
 

@@ -7,9 +7,8 @@ use native.Mathlib.Omega.{arith}
 use lib.IntN.{ℤ, pos}
 use Rattle.numbers.specs.declared.natural.Natural.{Natural}
 use Rattle.numbers.specs.declared.natural.Natural.the-variants.{Number, Outside}
-use Rattle.numbers.specs.declared.refusal.Refusal.{Refusal}
-use Rattle.numbers.specs.declared.refusal.Outcome.the-variants as Outcome
 use Rattle.numbers.specs.Natural.{withinOf}
+use Rattle.numbers.specs.Said.{refused, refusalIn, outcomeSays}
 use Rattle.clipping_predictor.specs.Predictor.{maxChannels}
 use Rattle.mono_input_volume_controller.specs.declared.config.Config.{Config}
 use Rattle.mono_input_volume_controller.specs.declared.config.Settings.{Settings}
@@ -20,7 +19,6 @@ use Rattle.mono_input_volume_controller.specs.SpeechLevel.{lowestDb, highestDb}
 use Rattle.mono_input_volume_controller.specs.Config.{defaults, volumesInRange, stepInRange, waitsInRange, targetsInRange, thresholdsInRange, settingsFrom, checkedIf, settingsOf}
 use Rattle.input_volume_controller.specs.Controller.{fresh, madeOf, makingOf}
 use Rattle.claims.specs.Causes.{Cause, firstOf, makingCauses}
-use Rattle.claims.specs.Refused.{unmadeBy}
 use Rattle.claims.proofs.Causes.{outside-is, one-outside-is, one-outside-unit, isOutside, within-is}
 
 -- causes 1 to 6 from their outcomes
@@ -34,7 +32,7 @@ oneToSix a b c d e f =
     ∷ record { number = 6; holds = f }
     ∷ []
 
-made-first : (v : Natural) (b c d e f : Bool) (s : Settings) → unmadeBy (madeOf v (checkedIf b c d e f s) .answer) ≡ firstOf (oneToSix (isOutside v) (not b) (not c) (not d) (not e) (not f))
+made-first : (v : Natural) (b c d e f : Bool) (s : Settings) → refusalIn (outcomeSays (madeOf v (checkedIf b c d e f s) .answer)) ≡ firstOf (oneToSix (isOutside v) (not b) (not c) (not d) (not e) (not f))
 unfolding madeOf
 made-first Outside b c d e f s = refl
 made-first (Number n) false c d e f s = refl
@@ -44,7 +42,7 @@ made-first (Number n) true true true false f s = refl
 made-first (Number n) true true true true false s = refl
 made-first (Number n) true true true true true s = refl
 
-pub making-first : (channels : ℤ) (config : Config) → unmadeBy (makingOf channels config .answer) ≡ firstOf (makingCauses channels config)
+pub making-first : (channels : ℤ) (config : Config) → refusalIn (outcomeSays (makingOf channels config .answer)) ≡ firstOf (makingCauses channels config)
 unfolding makingOf settingsOf
 making-first channels config =
     made-first (withinOf 1 maxChannels channels) (volumesInRange config) (stepInRange config) (waitsInRange config) (targetsInRange config) (thresholdsInRange config) (settingsFrom config)
@@ -56,12 +54,12 @@ making-first channels config =
     (sym (one-outside-is lowestDb highestDb (config .«target_range_max_dbfs») (config .«target_range_min_dbfs»)) i)
     (sym (one-outside-unit (config .«speech_probability_threshold») (config .«speech_ratio_threshold»)) i)))
 
-made-beside : (v : Natural) (s : Checked) (cause : Refusal) → madeOf v s .answer ≡ Outcome.Refused cause → madeOf v s .controller ≡ fresh (settingsFrom defaults) 1
+made-beside : (v : Natural) (s : Checked) (number : ℕ) → outcomeSays (madeOf v s .answer) ≡ refused number → madeOf v s .controller ≡ fresh (settingsFrom defaults) 1
 unfolding madeOf
-made-beside Outside s cause e = refl
-made-beside (Number n) (Checked.Refused other) cause e = refl
-made-beside (Number n) (Checked.InOrder s) cause e = let z : _≡_ {A = ℕ} 0 1 = cc in absurd (omega arith)
+made-beside Outside s number e = refl
+made-beside (Number n) (Checked.Refused cause) number e = refl
+made-beside (Number n) (Checked.InOrder s) number e = let z : _≡_ {A = ℕ} 0 1 = cc in absurd (omega arith)
 
-pub making-beside : (channels : ℤ) (config : Config) (cause : Refusal) → makingOf channels config .answer ≡ Outcome.Refused cause → makingOf channels config .controller ≡ fresh (settingsFrom defaults) 1
+pub making-beside : (channels : ℤ) (config : Config) (number : ℕ) → outcomeSays (makingOf channels config .answer) ≡ refused number → makingOf channels config .controller ≡ fresh (settingsFrom defaults) 1
 unfolding makingOf
-making-beside channels config cause e = made-beside (withinOf 1 maxChannels channels) (settingsOf config) cause e
+making-beside channels config number e = made-beside (withinOf 1 maxChannels channels) (settingsOf config) number e

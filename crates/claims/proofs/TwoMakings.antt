@@ -4,6 +4,7 @@ use mathlib.Core.List.{List}
 use Prim.Native.Nat.{ℕ}
 use lib.IntN.{pos}
 use Rattle.numbers.specs.declared.refusal.Outcome.the-variants.{Accepted}
+use Rattle.numbers.proofs.Said.{outcome-fixed}
 use Rattle.mono_input_volume_controller.specs.declared.config.Config.{Config}
 use Rattle.mono_input_volume_controller.specs.Config.{settingsFrom}
 use Rattle.input_volume_controller.specs.declared.InputVolumeController.{InputVolumeController}
@@ -30,7 +31,7 @@ had : (channels : ℕ) (config : Config) (calls : List Call) (heard : List Answe
 had channels config calls heard c m = record {
   new = m .made .controller;
   good = m .created .good;
-  made = m .created .view ∙ made-fresh channels config (sym (m .created .answer) ∙ m .accepted);
+  made = m .created .view ∙ made-fresh channels config (sym (outcome-fixed _ _ (m .created .answer)) ∙ m .accepted);
   heard = heard;
   run = m .run;
 }

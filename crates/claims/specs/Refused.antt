@@ -7,10 +7,7 @@ use mathlib.Core.Option.{Option, none, some}
 use Prim.Native.Nat.{ℕ}
 use lib.IntN.{ℤ}
 use lib.ListN.{length}
-use Rattle.numbers.specs.declared.refusal.Refusal.{Refusal}
-use Rattle.numbers.specs.declared.refusal.Outcome.{Outcome}
-use Rattle.numbers.specs.declared.refusal.Outcome.the-variants as Outcome
-use Rattle.numbers.specs.Refusal.{numberOf}
+use Rattle.numbers.specs.Said.{refused, refusalIn, outcomeSays}
 use Rattle.mono_input_volume_controller.specs.declared.config.Config.{Config}
 use Rattle.mono_input_volume_controller.specs.Config.{defaults, settingsFrom}
 use Rattle.input_volume_controller.specs.Controller.{Controller, fresh, makingOf}
@@ -18,7 +15,7 @@ use Rattle.input_volume_controller.specs.Reply.{Reply, mark, refusal, volume, d
 use Rattle.input_volume_controller.specs.Calls.{Call, step}
 use Rattle.claims.specs.Causes.{firstOf, callCauses, makingCauses}
 
--- the number that a reply, or a making's answer, refuses with
+-- the number that a reply refuses with
 abbrev pub refusedBy : Reply → Option ℕ
 refusedBy (mark near) = none
 refusedBy (refusal number) = some number
@@ -26,14 +23,10 @@ refusedBy (volume v) = none
 refusedBy Reply.none = none
 refusedBy done = none
 
-abbrev pub unmadeBy : Outcome → Option ℕ
-unmadeBy Outcome.Accepted = none
-unmadeBy (Outcome.Refused cause) = some (numberOf cause)
-
 -- THE CLAIM
 pub record RefusedCalls : Type 0 where
   pub unchanged : (c : Controller) (call : Call) (number : ℕ) → step c call .reply ≡ refusal number → step c call .state ≡ c
   pub first : (c : Controller) (call : Call) → refusedBy (step c call .reply) ≡ firstOf (callCauses (length (c .control .channels)) call)
-  pub making : (channels : ℤ) (config : Config) → unmadeBy (makingOf channels config .answer) ≡ firstOf (makingCauses channels config)
+  pub making : (channels : ℤ) (config : Config) → refusalIn (outcomeSays (makingOf channels config .answer)) ≡ firstOf (makingCauses channels config)
   -- beside a refusal there always stands the same controller, of one channel with the default settings
-  pub unmade : (channels : ℤ) (config : Config) (cause : Refusal) → makingOf channels config .answer ≡ Outcome.Refused cause → makingOf channels config .controller ≡ fresh (settingsFrom defaults) 1
+  pub unmade : (channels : ℤ) (config : Config) (number : ℕ) → outcomeSays (makingOf channels config .answer) ≡ refused number → makingOf channels config .controller ≡ fresh (settingsFrom defaults) 1

@@ -1,54 +1,29 @@
 -- The calls of the crates below the controller say no by the same table: each is refused with the number of the first cause about its inputs that holds. Document 01, "What a call can say no to",
 -- with what stands under the table of causes 7, 8 and 10. None of these calls has a state but the predictor's, which a refused frame leaves as before.
--- It reaches the code by the contracts of `compute_volume_update` (gain_map), `create_clipping_predictor`, `ClippingPredictor::{analyze, estimate_clipped_level_step}` (clipping_predictor) and
--- `level::measure` and `ClippingPredictorLevelBuffer::{new, compute_partial_metrics}` (clipping_predictor_level_buffer), each an equation with the definition that is named here. Definitions only.
+-- It reaches the code by the contracts of `compute_volume_update` (gain_map), `create_clipping_predictor`, `ClippingPredictor::{analyze, estimate_clipped_level_step}` (clipping_predictor),
+-- `level::measure` and `ClippingPredictorLevelBuffer::{new, compute_partial_metrics}` (clipping_predictor_level_buffer) and `get_speech_level_rms_error_db` (mono_input_volume_controller): each
+-- says that the answer's number and values are those of the definition that is named here. Definitions only.
 use mathlib.Core.Path.{_≡_}
 use mathlib.Core.Bool.{Bool, not, _||_}
 use mathlib.Core.List.{List, [], _∷_}
-use mathlib.Core.Option.{Option, none, some}
+use mathlib.Core.Option.{some}
 use Prim.Native.Nat.{ℕ, _*_, _≤_}
 use lib.Dec.{ltb, eqb}
 use lib.IntN.{ℤ, pos, negsuc, _+ℤ_}
 use lib.Signed.{ltZ, leZ}
 use lib.Ieee.{Float}
 use lib.ListN.{length}
-use Rattle.numbers.specs.Refusal.{numberOf}
-use Rattle.gain_map.specs.declared.VolumeUpdate.{VolumeUpdate}
-use Rattle.gain_map.specs.declared.VolumeUpdate.the-variants as Update
-use Rattle.gain_map.specs.VolumeUpdate.{volumeUpdateOf}
+use Rattle.numbers.specs.Said.{refusalIn, outcomeSays}
+use Rattle.gain_map.specs.VolumeUpdate.{updateSays, volumeUpdateOf}
 use Rattle.clipping_predictor_level_buffer.specs.declared.level.Level.{Level}
-use Rattle.clipping_predictor_level_buffer.specs.declared.level.Measured
-use Rattle.clipping_predictor_level_buffer.specs.declared.level.Measured.{Measured}
-use Rattle.clipping_predictor_level_buffer.specs.declared.Metrics.{Metrics}
-use Rattle.clipping_predictor_level_buffer.specs.declared.Metrics.the-variants as Metrics
-use Rattle.clipping_predictor_level_buffer.specs.Level.{measureOf}
+use Rattle.clipping_predictor_level_buffer.specs.Level.{measuredSays, measureOf}
 use Rattle.clipping_predictor_level_buffer.specs.Making as Ring
-use Rattle.clipping_predictor_level_buffer.specs.Metrics.{computePartialMetrics}
+use Rattle.clipping_predictor_level_buffer.specs.Metrics.{metricsSays, computePartialMetrics}
 use Rattle.clipping_predictor.specs.declared.settings.ClippingPredictorConfig.{ClippingPredictorConfig}
-use Rattle.clipping_predictor.specs.declared.Estimate.{Estimate}
-use Rattle.clipping_predictor.specs.declared.Estimate.the-variants as Estimate
-use Rattle.clipping_predictor.specs.Predictor.{Predictor, makingOf, frameFits, outcomeIf, enteredIf, argumentsOf, estimateOf}
+use Rattle.clipping_predictor.specs.Predictor.{Predictor, makingOf, frameFits, outcomeIf, enteredIf, argumentsOf, estimateSays, estimateOf}
+use Rattle.mono_input_volume_controller.specs.declared.speech_level.SpeechLevel.{SpeechLevel}
+use Rattle.mono_input_volume_controller.specs.SpeechError.{speechErrorSays, speechErrorOf}
 use Rattle.claims.specs.Causes.{Cause, firstOf, outside}
-use Rattle.claims.specs.Refused.{unmadeBy}
-
--- the number that an answer refuses with
-abbrev pub notSteppedBy : VolumeUpdate → Option ℕ
-notSteppedBy (Update.Volume v) = none
-notSteppedBy (Update.Refused cause) = some (numberOf cause)
-
-abbrev pub notEstimatedBy : Estimate → Option ℕ
-notEstimatedBy (Estimate.Drop step near) = none
-notEstimatedBy (Estimate.Nothing near) = none
-notEstimatedBy (Estimate.Refused cause) = some (numberOf cause)
-
-abbrev pub notMeasuredBy : Metrics → Option ℕ
-notMeasuredBy (Metrics.Found metrics) = none
-notMeasuredBy Metrics.Missing = none
-notMeasuredBy (Metrics.Refused cause) = some (numberOf cause)
-
-abbrev pub notLeveledBy : Measured → Option ℕ
-notLeveledBy (Measured.the-variants.Level level) = none
-notLeveledBy (Measured.the-variants.Refused cause) = some (numberOf cause)
 
 -- "The bare volume step tests 2 (its minimum), 8, 10 (its maximum not 0 to 255, or the volume above it; a minimum above the maximum is let through)."
 abbrev pub volumeStepCauses : ℤ → ℤ → ℤ → List Cause
@@ -95,15 +70,20 @@ ringCauses capacity = record { number = 11; holds = ltZ (pos 64) capacity } ∷ 
 abbrev pub metricsCauses : ℕ → ℤ → ℤ → List Cause
 metricsCauses capacity delay items = record { number = 11; holds = ltZ delay (pos 0) || (ltZ items (pos 1) || ltZ (pos capacity) (delay +ℤ items)) } ∷ []
 
+-- "a target not -90 to 30 dBFS"
+abbrev pub targetCauses : ℤ → ℤ → List Cause
+targetCauses min max = record { number = 5; holds = outside (negsuc 89) (pos 30) max || outside (negsuc 89) (pos 30) min } ∷ []
+
 -- THE CLAIM
 pub record RefusedBelow : Type 0 where
-  pub volume-step : (wanted volume min max : ℤ) → notSteppedBy (volumeUpdateOf wanted volume min max) ≡ firstOf (volumeStepCauses volume min max)
-  pub predictor-making : (channels : ℤ) (config : ClippingPredictorConfig) → unmadeBy (makingOf channels config .answer) ≡ firstOf (predictorCauses channels config)
-  pub predictor-frame : (channels samples : ℕ) (lent : List Float) → unmadeBy (outcomeIf (frameFits channels samples lent)) ≡ firstOf (predictorFrameCauses channels samples lent)
-  pub unchanged : (p : Predictor) (channels samples : ℕ) (lent : List Float) (number : ℕ) → unmadeBy (outcomeIf (frameFits channels samples lent)) ≡ some number
+  pub volume-step : (wanted volume min max : ℤ) → refusalIn (updateSays (volumeUpdateOf wanted volume min max)) ≡ firstOf (volumeStepCauses volume min max)
+  pub predictor-making : (channels : ℤ) (config : ClippingPredictorConfig) → refusalIn (outcomeSays (makingOf channels config .answer)) ≡ firstOf (predictorCauses channels config)
+  pub predictor-frame : (channels samples : ℕ) (lent : List Float) → refusalIn (outcomeSays (outcomeIf (frameFits channels samples lent))) ≡ firstOf (predictorFrameCauses channels samples lent)
+  pub unchanged : (p : Predictor) (channels samples : ℕ) (lent : List Float) (number : ℕ) → refusalIn (outcomeSays (outcomeIf (frameFits channels samples lent))) ≡ some number
       → enteredIf (frameFits channels samples lent) samples lent p ≡ p
   pub estimate : (p : Predictor) (channels : ℕ) (channel level step min max : ℤ) → 1 ≤ channels
-      → notEstimatedBy (estimateOf p (argumentsOf channels channel level step min max)) ≡ firstOf (estimateCauses channels channel level step min max)
-  pub level : (samples : List Float) → notLeveledBy (measureOf samples) ≡ firstOf (levelCauses samples)
-  pub ring-making : (capacity : ℤ) → unmadeBy (Ring.makingOf (Ring.capacityOf capacity)) ≡ firstOf (ringCauses capacity)
-  pub metrics : (capacity : ℕ) (stored : List Level) (delay items : ℤ) → notMeasuredBy (computePartialMetrics capacity stored delay items) ≡ firstOf (metricsCauses capacity delay items)
+      → refusalIn (estimateSays (estimateOf p (argumentsOf channels channel level step min max))) ≡ firstOf (estimateCauses channels channel level step min max)
+  pub level : (samples : List Float) → refusalIn (measuredSays (measureOf samples)) ≡ firstOf (levelCauses samples)
+  pub ring-making : (capacity : ℤ) → refusalIn (outcomeSays (Ring.makingOf (Ring.capacityOf capacity))) ≡ firstOf (ringCauses capacity)
+  pub metrics : (capacity : ℕ) (stored : List Level) (delay items : ℤ) → refusalIn (metricsSays (computePartialMetrics capacity stored delay items)) ≡ firstOf (metricsCauses capacity delay items)
+  pub speech-error : (level : SpeechLevel) (min max : ℤ) → refusalIn (speechErrorSays (speechErrorOf level min max)) ≡ firstOf (targetCauses min max)

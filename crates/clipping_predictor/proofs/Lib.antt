@@ -9,3 +9,4 @@ pub mod Drops
 pub mod Ceilings
 pub mod Starred
 pub mod Newest
+pub mod Says

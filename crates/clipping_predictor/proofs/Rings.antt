@@ -23,7 +23,7 @@ pub made-ring : (n : ℕ) (z : ℤ) (m : Made) → z ≡ pos n → 1 ≤ n → n
 unfolding capacityOf makingOf
 made-ring n z m e low high made =
     let cap : capacityOf z ≡ n = ap capacityOf e ∙ omega arith in
-    let ok : m .answer ≡ Accepted = made .answer-is ∙ ap makingOf cap ∙ rw (le-leb n maxCapacity high) in
+    let ok : makingOf (capacityOf z) ≡ Accepted = ap makingOf cap ∙ rw (le-leb n maxCapacity high) in
     subst (λ (k : ℕ). Emptied k (m .ring)) (λ i. capacityBeside (ok i) (cap i)) (made .empty)
 
 -- ---- settings that the check takes are in good order

@@ -3,6 +3,7 @@ use mathlib.Core.Path.{_≡_}
 use Prim.Native.Nat.{ℕ, zero, suc, _-_, _*_, _≤_, _<_}
 use mathlib.Core.Bool.{Bool, true, false, _&&_}
 use mathlib.Core.List.{List, [], _∷_, map}
+use mathlib.Core.Option.{Option, none, some}
 use lib.Dec.{leb, eqb}
 use lib.IntN.{ℤ, pos}
 use lib.Ieee.{Float}
@@ -15,6 +16,8 @@ use Rattle.numbers.specs.declared.refusal.Outcome.the-variants.{Accepted, Refus
 use Rattle.numbers.specs.declared.refusal.Refusal.{Refusal}
 use Rattle.numbers.specs.declared.refusal.Refusal.the-variants.{ChannelCount, InputVolume, FrameSize, EstimateRange}
 use Rattle.numbers.specs.Natural.{withinOf}
+use Rattle.numbers.specs.Refusal.{numberOf}
+use Rattle.numbers.specs.Said.{Said, accepted, refused, outcomeSays}
 use Rattle.clipping_predictor_level_buffer.specs.declared.level.Level.{Level}
 use Rattle.clipping_predictor_level_buffer.specs.declared.ClippingPredictorLevelBuffer.{ClippingPredictorLevelBuffer}
 use Rattle.clipping_predictor_level_buffer.specs.Level.{maxSamplesPerChannel, levelOf}
@@ -88,7 +91,7 @@ makingOf channels config = madeOf (withinOf 1 maxChannels channels) (settingsOf 
 
 pub record CreatedOf (channels : ℤ) (config : ClippingPredictorConfig) (r : Created) : Type 0 where
   pub good : Good (r .predictor)
-  pub answer : r .answer ≡ makingOf channels config .answer
+  pub answer : outcomeSays (r .answer) ≡ outcomeSays (makingOf channels config .answer)
   pub view : viewOf (r .predictor) ≡ makingOf channels config .predictor
 
 -- ---- what the private functions of the making say
@@ -142,7 +145,7 @@ pub record WithFrame (p : ClippingPredictor) (samples : ℕ) (frame : List Float
   pub same : frameFits (p .channels) samples frame ≡ false → r ≡ p
 
 pub record AnalyzedOf (p : ClippingPredictor) (samples : ℕ) (frame : List Float) (r : Analyzed) : Type 0 where
-  pub answer : r .answer ≡ outcomeIf (frameFits (p .channels) samples frame)
+  pub answer : outcomeSays (r .answer) ≡ outcomeSays (outcomeIf (frameFits (p .channels) samples frame))
   pub entered : WithFrame p samples frame (r .predictor)
 
 -- "Reset empties it."
@@ -154,6 +157,17 @@ pub record ResetOf (p r : ClippingPredictor) : Type 0 where
   pub view : viewOf r ≡ emptied (viewOf p)
 
 -- ---- estimates: causes 8 and 10
+
+-- how far the level is to fall, or none, and the mark
+pub record DropAndMark : Type 0 where
+  pub drop : Option ℤ
+  pub near : Bool
+
+-- document 01's number and values for each case of the answer
+abbrev pub estimateSays : Estimate → Said DropAndMark
+estimateSays (Estimate.Drop drop near) = accepted (record { drop = some drop; near = near })
+estimateSays (Estimate.Nothing near) = accepted (record { drop = none; near = near })
+estimateSays (Estimate.Refused cause) = refused (numberOf cause)
 
 abbrev pub givenIf : Bool → ℕ → Asked → Arguments
 givenIf true channel a = Arguments.Given channel a

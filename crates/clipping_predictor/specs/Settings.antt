@@ -8,6 +8,8 @@ use Rattle.numbers.specs.declared.natural.Natural.{Natural}
 use Rattle.numbers.specs.declared.natural.Natural.the-variants.{Number, Outside}
 use Rattle.numbers.specs.declared.refusal.Refusal.the-variants.{PredictorConfig}
 use Rattle.numbers.specs.Natural.{withinOf}
+use Rattle.numbers.specs.Refusal.{numberOf}
+use Rattle.numbers.specs.Said.{Said, accepted, refused}
 use Rattle.clipping_predictor_level_buffer.specs.Ring.{maxCapacity}
 use Rattle.clipping_predictor.specs.declared.settings.ClippingPredictorMode.{ClippingPredictorMode}
 use Rattle.clipping_predictor.specs.declared.settings.ClippingPredictorConfig.{ClippingPredictorConfig}
@@ -24,6 +26,11 @@ levelsInRange threshold margin = leb (natAbs threshold) maxLevel && leb (natAbs 
 
 unfoldable pub windowsInOrder : ℕ → ℕ → ℕ → Bool
 windowsInOrder window reference delay = ltb window (delay + reference) && leb (delay + reference) maxCapacity
+
+-- document 01's number and values for each case of the answer
+abbrev pub checkedSays : Checked → Said Settings
+checkedSays (InOrder s) = accepted s
+checkedSays (Refused cause) = refused (numberOf cause)
 
 abbrev pub inOrderIf : Bool → Settings → Checked
 inOrderIf true s = InOrder s

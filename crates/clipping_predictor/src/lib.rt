@@ -9,10 +9,10 @@ ghost use Rattle.clipping_predictor_level_buffer.specs.Ring.{Pushed};
 ghost use Rattle.clipping_predictor_level_buffer.specs.Ring.{Good as GoodRing};
 ghost use Rattle.clipping_predictor.specs.Settings.{Good as GoodSettings};
 ghost use Rattle.clipping_predictor.specs.AllRings.{EnteredOf, HeardOf};
-ghost use Rattle.clipping_predictor.specs.Predictor.{maxChannels, Good, viewOf, Fresh, RefusedWith, CreatedOf, frameFits, outcomeIf, AnalyzedOf, ResetOf, argumentsOf, dropOr, estimateOf};
-use crate::modes::Asked;
-use crate::modes::Estimated;
-use crate::modes::Question;
+ghost use Rattle.clipping_predictor.specs.Predictor.{maxChannels, Good, viewOf, Fresh, RefusedWith, CreatedOf, frameFits, outcomeIf, AnalyzedOf, ResetOf, argumentsOf, dropOr, estimateSays, estimateOf};
+pub use crate::modes::Asked;
+pub use crate::modes::Estimated;
+pub use crate::modes::Question;
 use crate::modes::answered;
 use crate::modes::joined;
 use crate::settings::Checked;
@@ -26,7 +26,7 @@ use numbers::natural::Natural;
 use numbers::refusal::Outcome;
 use numbers::refusal::Refusal;
 
-pub mod modes;
+mod modes;
 pub mod settings;
 
 // The most channels that a predictor has.
@@ -291,7 +291,7 @@ impl ClippingPredictor {
         max_mic_level: i32,
     ) -> Estimate
         requires { ⌜ Good self ⌝ }
-        ensures { λ r. ⌜ r ≡ estimateOf (viewOf self) (argumentsOf (self .channels) channel level «default_step» «min_mic_level» «max_mic_level») ⌝ }
+        ensures { λ r. ⌜ estimateSays r ≡ estimateSays (estimateOf (viewOf self) (argumentsOf (self .channels) channel level «default_step» «min_mic_level» «max_mic_level»)) ⌝ }
     {
         let given = arguments_in_range(
             self.channels,

@@ -1,7 +1,7 @@
 // What a predictor is made from, and what of it is kept.
 ghost use mathlib.Core.Path.{_≡_};
 ghost use Prim.Native.Nat.{_≤_};
-ghost use Rattle.clipping_predictor.specs.Settings.{levelsInRange, windowsInOrder, configOf, settingsOf};
+ghost use Rattle.clipping_predictor.specs.Settings.{levelsInRange, windowsInOrder, checkedSays, configOf, settingsOf};
 use clipping_predictor_level_buffer::MAX_CAPACITY;
 use numbers::natural::Natural;
 use numbers::refusal::Refusal;
@@ -101,8 +101,9 @@ fn in_order(
     })
 }
 
+// Cause 7.
 pub fn check(config: ClippingPredictorConfig) -> Checked
-    ensures { λ r. ⌜ r ≡ settingsOf config ⌝ }
+    ensures { λ r. ⌜ checkedSays r ≡ checkedSays (settingsOf config) ⌝ }
 {
     let mode = config.mode;
     in_order(

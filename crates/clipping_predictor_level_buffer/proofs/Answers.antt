@@ -70,7 +70,7 @@ module _ (capacity : ℕ) (stored : List Level) where
 
 made-with : (x : ℤ) (r : ClippingPredictorLevelBuffer) (n : ℕ) → capacityOf x ≡ n → n ≤ maxCapacity → Emptied n r → MadeOf x (record { answer = Accepted; ring = r })
 unfolding makingOf
-made-with x r n e h k = record { answer-is = rw (e, le-leb n maxCapacity h); empty = rw e k }
+made-with x r n e h k = record { answer-is = rw (e, le-leb n maxCapacity h); empty = rw (e, le-leb n maxCapacity h) k }
 
 least : (x : ℤ) → ltZ x (pos 1) ≡ true → capacityOf x ≡ 1
 unfolding capacityOf
@@ -95,7 +95,7 @@ module _ (x : ℤ) (r : ClippingPredictorLevelBuffer) where
 
   pub made-none : ltZ x (pos 1) ≡ false → withinOf 1 maxCapacity x ≡ Outside → Emptied 1 r → MadeOf x (record { answer = Rejected RingRange; ring = r })
   unfolding makingOf
-  made-none t e k = record { answer-is = rw (lt-leb (capacityOf x) maxCapacity (above x t e)); empty = k }
+  made-none t e k = record { answer-is = rw (lt-leb (capacityOf x) maxCapacity (above x t e)); empty = rw (lt-leb (capacityOf x) maxCapacity (above x t e)) k }
 
   pub made : (n : ℕ) → withinOf 1 maxCapacity x ≡ Number n → Emptied n r → MadeOf x (record { answer = Accepted; ring = r })
   made n e k = let i = its-own x n e in made-with x r n (i .0) (i .1 .high) k

@@ -7,3 +7,4 @@ pub mod Answers
 pub mod Sums
 pub mod Pushes
 pub mod Edges
+pub mod Says

@@ -7,6 +7,8 @@ use lib.Dec.{leb}
 use lib.Ieee.{Float, binary32, mul}
 use lib.ListN.{length}
 use Rattle.numbers.specs.declared.refusal.Refusal.the-variants.{FrameSize}
+use Rattle.numbers.specs.Refusal.{numberOf}
+use Rattle.numbers.specs.Said.{Said, accepted, refused}
 use Rattle.levels.specs.FloatParts.{magnitudeOf}
 use Rattle.clipping_predictor_level_buffer.specs.declared.level.Level.{Level}
 use Rattle.clipping_predictor_level_buffer.specs.declared.level.Measured as Measured
@@ -24,6 +26,11 @@ squareOf x = mul binary32 x x
 -- the level of a frame, by the source's `analyze`
 unfoldable pub levelOf : List Float → Level
 levelOf samples = record { average = mean (map squareOf samples); max = largest (map magnitudeOf samples) }
+
+-- document 01's number and values for each case of the answer
+abbrev pub measuredSays : Measured → Said Level
+measuredSays (Measured.the-variants.Level level) = accepted level
+measuredSays (Refused cause) = refused (numberOf cause)
 
 abbrev pub measuredIf : Bool → List Float → Measured
 measuredIf true samples = Measured.the-variants.Level (levelOf samples)

@@ -7,6 +7,7 @@ use lib.IntN.{ℤ, pos, negsuc}
 use Rattle.numbers.specs.declared.refusal.Refusal.the-variants.{RingRange}
 use Rattle.numbers.specs.declared.refusal.Outcome.{Outcome}
 use Rattle.numbers.specs.declared.refusal.Outcome.the-variants.{Accepted, Refused}
+use Rattle.numbers.specs.Said.{outcomeSays}
 use Rattle.clipping_predictor_level_buffer.specs.declared.Made.{Made}
 use Rattle.clipping_predictor_level_buffer.specs.Ring.{maxCapacity, Emptied}
 
@@ -28,5 +29,5 @@ capacityBeside Accepted capacity = capacity
 capacityBeside (Refused cause) capacity = 1
 
 pub record MadeOf (capacity : ℤ) (r : Made) : Type 0 where
-  pub answer-is : r .answer ≡ makingOf (capacityOf capacity)
-  pub empty : Emptied (capacityBeside (r .answer) (capacityOf capacity)) (r .ring)
+  pub answer-is : outcomeSays (r .answer) ≡ outcomeSays (makingOf (capacityOf capacity))
+  pub empty : Emptied (capacityBeside (makingOf (capacityOf capacity)) (capacityOf capacity)) (r .ring)

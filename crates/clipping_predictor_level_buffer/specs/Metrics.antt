@@ -2,12 +2,15 @@
 -- not-a-number. There are none exactly if delay + n exceeds the stored count." WebRTC's `ComputePartialMetrics`. Definitions only.
 use mathlib.Core.Bool.{Bool, true, false, _&&_}
 use mathlib.Core.List.{List, map}
+use mathlib.Core.Option.{Option, none, some}
 use Prim.Native.Nat.{ℕ, _+_}
 use lib.Dec.{leb}
 use lib.IntN.{ℤ, pos, negsuc}
 use lib.Ieee.{Float}
 use lib.ListN.{length, take, drop}
 use Rattle.numbers.specs.declared.refusal.Refusal.the-variants.{RingRange}
+use Rattle.numbers.specs.Refusal.{numberOf}
+use Rattle.numbers.specs.Said.{Said, accepted, refused}
 use Rattle.clipping_predictor_level_buffer.specs.declared.level.Level.{Level}
 use Rattle.clipping_predictor_level_buffer.specs.declared.Metrics.{Metrics}
 use Rattle.clipping_predictor_level_buffer.specs.declared.Metrics.the-variants.{Refused, Missing, Found}
@@ -23,6 +26,12 @@ peakOf l = l .max
 -- the metrics of the records that are left: their mean is that of the means, their peak the largest
 unfoldable pub metricsOver : List Level → Level
 metricsOver items = record { average = mean (map meanOf items); max = largest (map peakOf items) }
+
+-- document 01's number and values for each case of the answer: metrics, none, or a refusal
+abbrev pub metricsSays : Metrics → Said (Option Level)
+metricsSays (Found metrics) = accepted (some metrics)
+metricsSays Missing = accepted none
+metricsSays (Refused cause) = refused (numberOf cause)
 
 abbrev pub foundIf : Bool → List Level → Metrics
 foundIf true items = Found (metricsOver items)

@@ -2,7 +2,7 @@
 ghost use mathlib.Core.Path.{_≡_};
 ghost use Prim.Native.Nat.{_≤_};
 ghost use lib.ListN.{length};
-ghost use Rattle.clipping_predictor_level_buffer.specs.Level.{maxSamplesPerChannel, levelOf, measureOf};
+ghost use Rattle.clipping_predictor_level_buffer.specs.Level.{maxSamplesPerChannel, levelOf, measuredSays, measureOf};
 ghost use Rattle.clipping_predictor_level_buffer.specs.Running.{largestPart, withFour, Reached, Passed};
 use numbers::refusal::Refusal;
 
@@ -119,7 +119,7 @@ fn level_of(samples: &[f32]) -> Level
 }
 
 pub fn measure(samples: &[f32]) -> Measured
-    ensures { λ r. ⌜ r ≡ measureOf (now (samples .entry)) ⌝ }
+    ensures { λ r. ⌜ measuredSays r ≡ measuredSays (measureOf (now (samples .entry))) ⌝ }
 {
     if samples.len() < 1 {
         return Measured::Refused(Refusal::FrameSize);

@@ -7,7 +7,7 @@ ghost use lib.ListN.{length, take, drop};
 ghost use Rattle.clipping_predictor_level_buffer.specs.Statistics.{larger};
 ghost use Rattle.clipping_predictor_level_buffer.specs.Ring.{maxCapacity, Capacity, Good, behind, after, stored, storedAt, Emptied, Pushed};
 ghost use Rattle.clipping_predictor_level_buffer.specs.Making.{MadeOf};
-ghost use Rattle.clipping_predictor_level_buffer.specs.Metrics.{metricsOver, partialMetrics, computePartialMetrics};
+ghost use Rattle.clipping_predictor_level_buffer.specs.Metrics.{metricsOver, metricsSays, partialMetrics, computePartialMetrics};
 use crate::level::Level;
 use numbers::natural::Natural;
 use numbers::refusal::Outcome;
@@ -192,7 +192,7 @@ impl ClippingPredictorLevelBuffer {
     // `compute_partial_metrics` on unsigned numbers. Each number is tested against the capacity before they are added.
     pub fn partial_metrics(self, delay: usize, items: usize) -> Metrics
         requires { ⌜ Good self ⌝ }
-        ensures { λ r. ⌜ r ≡ partialMetrics (self .capacity) (stored self) delay items ⌝ }
+        ensures { λ r. ⌜ metricsSays r ≡ metricsSays (partialMetrics (self .capacity) (stored self) delay items) ⌝ }
     {
         if items < 1 {
             return Metrics::Refused(Refusal::RingRange);
@@ -211,7 +211,7 @@ impl ClippingPredictorLevelBuffer {
 
     pub fn compute_partial_metrics(self, delay: i32, num_items: i32) -> Metrics
         requires { ⌜ Good self ⌝ }
-        ensures { λ r. ⌜ r ≡ computePartialMetrics (self .capacity) (stored self) delay «num_items» ⌝ }
+        ensures { λ r. ⌜ metricsSays r ≡ metricsSays (computePartialMetrics (self .capacity) (stored self) delay «num_items») ⌝ }
     {
         let skipped = numbers::natural::within(0, self.capacity, delay);
         let Natural::Number(d) = skipped else {

@@ -9,6 +9,8 @@ use Rattle.numbers.specs.declared.natural.Natural.{Natural}
 use Rattle.numbers.specs.declared.natural.Natural.the-variants.{Number, Outside}
 use Rattle.numbers.specs.declared.refusal.Refusal.the-variants.{MinimumVolume, InputVolume, EstimateRange}
 use Rattle.numbers.specs.Natural.{withinOf}
+use Rattle.numbers.specs.Refusal.{numberOf}
+use Rattle.numbers.specs.Said.{Said, accepted, refused}
 use Rattle.numbers.specs.First.{first}
 use Rattle.gain_map.specs.GainMap.{gain}
 use Rattle.gain_map.specs.declared.VolumeUpdate.{VolumeUpdate}
@@ -38,7 +40,11 @@ walk (pos (suc n)) volume min max = rise (pos (suc n)) volume max
 walk (negsuc n) volume min max = fall (negsuc n) volume min
 
 -- "The bare volume step tests 2 (its minimum), 8, 10 (its maximum not 0 to 255, or the volume above it; a minimum above the maximum is let through)."
--- `numberOf` of the crate `numbers` gives each cause its number.
+-- `updateSays` gives each case document 01's number and value.
+abbrev pub updateSays : VolumeUpdate → Said ℤ
+updateSays (Volume v) = accepted v
+updateSays (Refused cause) = refused (numberOf cause)
+
 abbrev pub reached : Bool → ℕ → VolumeUpdate
 reached true volume = Volume (pos volume)
 reached false volume = Refused EstimateRange

@@ -1,7 +1,7 @@
 // The gain of each input volume, and the volume that a wanted change of gain leads to. Ports `GAIN_MAP` and the two copies of `compute_volume_update`.
 ghost use mathlib.Core.Path.{_≡_};
 ghost use Rattle.gain_map.specs.GainMap.{gain};
-ghost use Rattle.gain_map.specs.VolumeUpdate.{rise, fall, walk, volumeUpdateOf};
+ghost use Rattle.gain_map.specs.VolumeUpdate.{rise, fall, walk, updateSays, volumeUpdateOf};
 use numbers::natural::Natural;
 use numbers::refusal::Refusal;
 
@@ -331,7 +331,7 @@ pub fn compute_volume_update(
     min_input_volume: i32,
     max_input_volume: i32,
 ) -> VolumeUpdate
-    ensures { λ r. ⌜ r ≡ volumeUpdateOf «gain_error_db» «input_volume» «min_input_volume» «max_input_volume» ⌝ }
+    ensures { λ r. ⌜ updateSays r ≡ updateSays (volumeUpdateOf «gain_error_db» «input_volume» «min_input_volume» «max_input_volume») ⌝ }
 {
     let low = numbers::natural::within(0, 255, min_input_volume);
     let Natural::Number(min) = low else {

@@ -11,6 +11,7 @@ use Rattle.numbers.specs.declared.refusal.Outcome.the-variants.{Accepted, Refus
 use Rattle.numbers.specs.declared.refusal.Refusal.{Refusal}
 use Rattle.numbers.specs.declared.refusal.Refusal.the-variants.{ChannelCount}
 use Rattle.numbers.specs.Natural.{withinOf}
+use Rattle.numbers.specs.Said.{outcomeSays}
 use Rattle.clipping_predictor.specs.declared.settings.ClippingPredictorMode.the-variants.{AdaptiveStepClippingPeakPrediction}
 use Rattle.clipping_predictor.specs.declared.settings.ClippingPredictorConfig.{ClippingPredictorConfig}
 use Rattle.clipping_predictor.specs.declared.ClippingPredictor.{ClippingPredictor}
@@ -119,5 +120,5 @@ pub record RefusedWith (cause : Refusal) (r : Created) : Type 0 where
 
 pub record CreatedOf (channels : ℤ) (config : Config) (r : Created) : Type 0 where
   pub good : Good (r .controller)
-  pub answer : r .answer ≡ makingOf channels config .answer
+  pub answer : outcomeSays (r .answer) ≡ outcomeSays (makingOf channels config .answer)
   pub view : viewOf (r .controller) ≡ makingOf channels config .controller

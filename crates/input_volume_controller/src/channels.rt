@@ -8,6 +8,7 @@ ghost use Rattle.mono_input_volume_controller.specs.MonoState.{Good as GoodChan
 ghost use Rattle.input_volume_controller.specs.Channels.{Good, Becomes, freshChannel, called, channelsOf, eachCalled, lowerOf, aggregateOf};
 use clipping_predictor::MAX_CHANNELS;
 use mono_input_volume_controller::config::Settings;
+use mono_input_volume_controller::mono::MAX_INPUT_VOLUME;
 use mono_input_volume_controller::mono::MonoInputVolumeController;
 use mono_input_volume_controller::speech_level::RmsError;
 
@@ -31,6 +32,29 @@ pub struct Channels {
 pub struct Aggregate {
     pub volume: u8,
     pub channel: usize,
+}
+
+// Ports `MonoInputVolumeController::new`, for settings that the controller of all channels has tested.
+fn fresh_channel(s: Settings) -> MonoInputVolumeController
+    requires { ⌜ GoodSettings s ⌝ }
+    ensures { λ r. ⌜ BecomesChannel (freshChannel s) r ⌝ }
+{
+    MonoInputVolumeController {
+        least: s.least,
+        floor: s.floor,
+        ceiling: MAX_INPUT_VOLUME,
+        last: 0,
+        used: true,
+        pending: true,
+        startup: true,
+        volume: 0,
+        wait: s.update_wait,
+        frames: 0,
+        speech: 0,
+        first: true,
+        probability: s.speech_probability,
+        ratio: s.speech_ratio,
+    }
 }
 
 fn call_one(m: MonoInputVolumeController, call: ChannelCall) -> MonoInputVolumeController
@@ -61,7 +85,7 @@ impl Channels {
         requires { ⌜ (1 ≤ count) × (count ≤ maxChannels) × GoodSettings s ⌝ }
         ensures { λ r. ⌜ Becomes (replicate count (freshChannel s)) r ⌝ }
     {
-        let channel = MonoInputVolumeController::new(s);
+        let channel = fresh_channel(s);
         let items = [channel; MAX_CHANNELS];
         Channels { items, count }
     }

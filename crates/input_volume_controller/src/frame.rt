@@ -17,10 +17,12 @@ use crate::Analyzed;
 use crate::InputVolumeController;
 use crate::clipped_ratio::compute_clipped_ratio;
 use crate::volume_control::VolumeControl;
+use crate::volume_control::lower_channels;
+use crate::volume_control::one_frame_more;
+use clipping_predictor::Asked;
 use clipping_predictor::ClippingPredictor;
-use clipping_predictor::modes::Asked;
-use clipping_predictor::modes::Estimated;
-use clipping_predictor::modes::Question;
+use clipping_predictor::Estimated;
+use clipping_predictor::Question;
 use mono_input_volume_controller::mono::MAX_INPUT_VOLUME;
 use numbers::truth::either;
 
@@ -59,7 +61,7 @@ fn tested(
     Analyzed {
         answer: Analysis::Accepted(e.near),
         controller: InputVolumeController {
-            control: control.lower_channels(step),
+            control: lower_channels(control, step),
             predictor: predictor.reset(),
         },
     }
@@ -80,7 +82,7 @@ fn entered(
         return Analyzed {
             answer: Analysis::Accepted(false),
             controller: InputVolumeController {
-                control: control.one_frame_more(),
+                control: one_frame_more(control),
                 predictor,
             },
         };

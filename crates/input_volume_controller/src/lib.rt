@@ -31,7 +31,7 @@ mod channels;
 mod clipped_ratio;
 mod frame;
 pub mod plain;
-pub mod volume_control;
+mod volume_control;
 
 // The volume that a frame applied, as long as no recommendation has answered it.
 pub enum Applied {

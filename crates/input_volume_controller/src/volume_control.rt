@@ -4,6 +4,7 @@ ghost use Prim.Native.Nat.{_≤_, _<_};
 ghost use Rattle.clipping_predictor.specs.Predictor.{maxChannels};
 ghost use Rattle.input_volume_controller.specs.declared.Applied.the-variants.{Volume, Nothing};
 ghost use Rattle.mono_input_volume_controller.specs.Config.{Good as GoodSettings};
+ghost use Rattle.mono_input_volume_controller.specs.SpeechLevel.{GoodTargets, rmsErrorOf};
 ghost use Rattle.input_volume_controller.specs.Controller.{freshControl};
 ghost use Rattle.input_volume_controller.specs.Control.{withApplied, controlOf, Good, Becomes, eachChannel};
 ghost use Rattle.input_volume_controller.specs.ControlCalls.{raisedFor, aggregated, withAppliedInputVolume, lowerChannels, oneFrameMore, processChannels};
@@ -14,6 +15,8 @@ use crate::Recommendation;
 use crate::channels::ChannelCall;
 use crate::channels::Channels;
 use mono_input_volume_controller::config::Settings;
+use mono_input_volume_controller::speech_level::RmsError;
+use mono_input_volume_controller::speech_level::SpeechError;
 use mono_input_volume_controller::speech_level::SpeechLevel;
 use mono_input_volume_controller::speech_level::get_speech_level_rms_error_db;
 
@@ -60,6 +63,18 @@ fn raised_for(applied: Applied, least: u8, volume: u8) -> u8
     }
 }
 
+// The speech error for the targets of the settings, which are in range.
+fn speech_error(level: SpeechLevel, min: i32, max: i32) -> RmsError
+    requires { ⌜ GoodTargets min max ⌝ }
+    ensures { λ r. ⌜ r ≡ rmsErrorOf level min max ⌝ }
+{
+    let answer = get_speech_level_rms_error_db(level, min, max);
+    match answer {
+        SpeechError::Error(error) => error,
+        SpeechError::Refused(_) => RmsError::NoError,
+    }
+}
+
 impl VolumeControl {
     pub fn new(count: usize, s: Settings) -> VolumeControl
         requires { ⌜ (1 ≤ count) × (count ≤ maxChannels) × GoodSettings s ⌝ }
@@ -76,7 +91,7 @@ impl VolumeControl {
         }
     }
 
-    pub fn with_applied(self, applied: Applied) -> VolumeControl
+    fn with_applied(self, applied: Applied) -> VolumeControl
         requires { ⌜ Good self ⌝ }
         ensures { λ r. ⌜ Becomes (withApplied applied (controlOf self)) r ⌝ }
     {
@@ -103,7 +118,7 @@ impl VolumeControl {
         c
     }
 
-    pub fn aggregate_channel_levels(self) -> VolumeControl
+    fn aggregate_channel_levels(self) -> VolumeControl
         requires { ⌜ Good self ⌝ }
         ensures { λ r. ⌜ Becomes (aggregated (controlOf self)) r ⌝ }
     {
@@ -167,36 +182,12 @@ impl VolumeControl {
         c
     }
 
-    // Clipping lowers every channel and restarts the wait.
-    pub fn lower_channels(self, step: u8) -> VolumeControl
-        requires { ⌜ Good self ⌝ }
-        ensures { λ r. ⌜ Becomes (lowerChannels step (controlOf self)) r ⌝ }
-    {
-        let mut c = self.each(ChannelCall::Clipping(step));
-        c.since = 0;
-        c.aggregate_channel_levels()
-    }
-
-    // A frame within the wait.
-    pub fn one_frame_more(self) -> VolumeControl
-        requires { ⌜ Good self × (self .since < self .settings .«clipped_wait») ⌝ }
-        ensures { λ r. ⌜ Becomes (oneFrameMore (controlOf self)) r ⌝ }
-    {
-        let mut c = self;
-        c.since = self.since + 1;
-        c
-    }
-
     // The speech error acts on every channel, and the applied volume is answered.
-    pub fn process_channels(
-        self,
-        speech_probability: f32,
-        speech_level: SpeechLevel,
-    ) -> VolumeControl
+    fn process_channels(self, speech_probability: f32, speech_level: SpeechLevel) -> VolumeControl
         requires { ⌜ Good self ⌝ }
         ensures { λ r. ⌜ Becomes (withApplied Nothing (processChannels «speech_probability» «speech_level» (controlOf self))) r ⌝ }
     {
-        let error = get_speech_level_rms_error_db(
+        let error = speech_error(
             speech_level,
             self.settings.min_target,
             self.settings.max_target,
@@ -237,4 +228,24 @@ impl VolumeControl {
             control: processed,
         }
     }
+}
+
+// Clipping lowers every channel and restarts the wait.
+pub fn lower_channels(control: VolumeControl, step: u8) -> VolumeControl
+    requires { ⌜ Good control ⌝ }
+    ensures { λ r. ⌜ Becomes (lowerChannels step (controlOf control)) r ⌝ }
+{
+    let mut c = control.each(ChannelCall::Clipping(step));
+    c.since = 0;
+    c.aggregate_channel_levels()
+}
+
+// A frame within the wait.
+pub fn one_frame_more(control: VolumeControl) -> VolumeControl
+    requires { ⌜ Good control × (control .since < control .settings .«clipped_wait») ⌝ }
+    ensures { λ r. ⌜ Becomes (oneFrameMore (controlOf control)) r ⌝ }
+{
+    let mut c = control;
+    c.since = control.since + 1;
+    c
 }

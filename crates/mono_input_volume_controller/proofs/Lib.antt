@@ -6,3 +6,4 @@ pub mod Kept
 pub mod Users
 pub mod Ceiling
 pub mod Starred
+pub mod Says

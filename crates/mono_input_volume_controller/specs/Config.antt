@@ -6,6 +6,8 @@ use lib.IntN.{ℤ, pos, negsuc, natAbs}
 use lib.Signed.{leZ}
 use lib.Ieee.{Float, binary32, le, ofBits, ofInt}
 use Rattle.numbers.specs.declared.refusal.Refusal.the-variants.{MinimumVolume, ClippedLevelStep, WaitFrames, TargetRange, SpeechThreshold}
+use Rattle.numbers.specs.Refusal.{numberOf}
+use Rattle.numbers.specs.Said.{Said, accepted, refused}
 use Rattle.mono_input_volume_controller.specs.declared.config.Config.{Config}
 use Rattle.mono_input_volume_controller.specs.declared.config.Settings.{Settings}
 use Rattle.mono_input_volume_controller.specs.declared.config.Checked.{Checked}
@@ -83,6 +85,11 @@ settingsFrom c = record {
   «speech_probability» = c .«speech_probability_threshold»;
   «speech_ratio» = c .«speech_ratio_threshold»;
 }
+
+-- document 01's number and values for each case of the answer
+abbrev pub checkedSays : Checked → Said Settings
+checkedSays (Checked.InOrder s) = accepted s
+checkedSays (Checked.Refused cause) = refused (numberOf cause)
 
 -- the first cause that holds: volumes, step, waits, targets, thresholds
 abbrev pub checkedIf : Bool → Bool → Bool → Bool → Bool → Settings → Checked

@@ -3,3 +3,4 @@ pub mod MonoState
 pub mod Mono
 pub mod MonoProcess
 pub mod Config
+pub mod SpeechError

@@ -1,6 +1,6 @@
 // The settings: what a controller is made from, and what of it is kept. Ports `Config`.
 ghost use mathlib.Core.Path.{_≡_};
-ghost use Rattle.mono_input_volume_controller.specs.Config.{defaults, inRange, bothInRange, inUnit, bothInUnit, InOrder, settingsFrom, settingsOf};
+ghost use Rattle.mono_input_volume_controller.specs.Config.{defaults, inRange, bothInRange, inUnit, bothInUnit, InOrder, settingsFrom, checkedSays, settingsOf};
 use numbers::refusal::Refusal;
 
 // Any bits. target_range_experimental_max_dbfs is left out: nothing reads it.
@@ -127,7 +127,7 @@ pub fn default_settings() -> Settings
 
 // Causes 2 to 6, in that order.
 pub fn check(config: Config) -> Checked
-    ensures { λ r. ⌜ r ≡ settingsOf config ⌝ }
+    ensures { λ r. ⌜ checkedSays r ≡ checkedSays (settingsOf config) ⌝ }
 {
     if !both_in_range(0, 255, config.min_input_volume, config.clipped_level_min) {
         return Checked::Refused(Refusal::MinimumVolume);

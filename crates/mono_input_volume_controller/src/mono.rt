@@ -1,11 +1,9 @@
-// One channel's controller, by value: each call hands the new state back. Ports `MonoInputVolumeController`.
+// One channel's controller, by value: each call hands the new state back. Ports `MonoInputVolumeController`; its `new` stands with the controller of all channels, which tests the settings.
 ghost use mathlib.Core.Path.{_≡_};
 ghost use Prim.Native.Nat.{_+_, _≤_};
-ghost use Rattle.mono_input_volume_controller.specs.Config.{Good as GoodSettings};
 ghost use Rattle.mono_input_volume_controller.specs.MonoState.{maxWait, Good, Becomes};
-ghost use Rattle.mono_input_volume_controller.specs.Mono.{created, initialized, checkAsked, handledCaptureOutputUsedChange, withStreamAnalogLevel, isUsers, takenFromUser, withInputVolume, handledClipping};
+ghost use Rattle.mono_input_volume_controller.specs.Mono.{initialized, checkAsked, handledCaptureOutputUsedChange, withStreamAnalogLevel, isUsers, takenFromUser, withInputVolume, handledClipping};
 ghost use Rattle.mono_input_volume_controller.specs.MonoProcess.{staysMuted, checkedVolumeAndReset, settled, heldError, updatedInputVolume, corrected, speechFrames, mayAct, waited, counted, processed};
-use crate::config::Settings;
 use crate::speech_level::RmsError;
 
 // The highest input volume.
@@ -98,29 +96,6 @@ fn hold_error(error: i32) -> i32
 }
 
 impl MonoInputVolumeController {
-    // Takes the settings that the controller of all channels has tested.
-    pub fn new(s: Settings) -> MonoInputVolumeController
-        requires { ⌜ GoodSettings s ⌝ }
-        ensures { λ r. ⌜ Becomes (created s) r ⌝ }
-    {
-        MonoInputVolumeController {
-            least: s.least,
-            floor: s.floor,
-            ceiling: MAX_INPUT_VOLUME,
-            last: 0,
-            used: true,
-            pending: true,
-            startup: true,
-            volume: 0,
-            wait: s.update_wait,
-            frames: 0,
-            speech: 0,
-            first: true,
-            probability: s.speech_probability,
-            ratio: s.speech_ratio,
-        }
-    }
-
     // Startup, last and recommended volume stay.
     pub fn initialize(self) -> MonoInputVolumeController
         requires { ⌜ Good self ⌝ }

@@ -1,6 +1,9 @@
 // How far a speech level lies outside its targets, in whole dB. Ports `get_speech_level_rms_error_db`.
 ghost use mathlib.Core.Path.{_≡_};
 ghost use Rattle.mono_input_volume_controller.specs.SpeechLevel.{GoodTargets, held, errorOf, rmsErrorOf};
+ghost use Rattle.mono_input_volume_controller.specs.SpeechError.{speechErrorSays, speechErrorOf};
+use crate::config::both_in_range;
+use numbers::refusal::Refusal;
 
 // A speech level in dBFS, if there is one.
 pub enum SpeechLevel {
@@ -12,6 +15,12 @@ pub enum SpeechLevel {
 pub enum RmsError {
     NoError,
     Db(i32),
+}
+
+// The error, or why there is none to ask for.
+pub enum SpeechError {
+    Refused(Refusal),
+    Error(RmsError),
 }
 
 // Rust's `clamp(-90.0, 30.0)`: a not-a-number passes through.
@@ -43,20 +52,27 @@ fn error_of(level: f32, min: i32, max: i32) -> i32
     0
 }
 
+// The error for targets in range.
+fn rms_error(level: SpeechLevel, min: i32, max: i32) -> RmsError
+    requires { ⌜ GoodTargets min max ⌝ }
+    ensures { λ r. ⌜ r ≡ rmsErrorOf level min max ⌝ }
+{
+    match level {
+        SpeechLevel::Absent => RmsError::NoError,
+        SpeechLevel::Dbfs(dbfs) => RmsError::Db(error_of(hold(dbfs), min, max)),
+    }
+}
+
+// Cause 5.
 pub fn get_speech_level_rms_error_db(
     speech_level: SpeechLevel,
     target_range_min_dbfs: i32,
     target_range_max_dbfs: i32,
-) -> RmsError
-    requires { ⌜ GoodTargets «target_range_min_dbfs» «target_range_max_dbfs» ⌝ }
-    ensures { λ r. ⌜ r ≡ rmsErrorOf «speech_level» «target_range_min_dbfs» «target_range_max_dbfs» ⌝ }
+) -> SpeechError
+    ensures { λ r. ⌜ speechErrorSays r ≡ speechErrorSays (speechErrorOf «speech_level» «target_range_min_dbfs» «target_range_max_dbfs») ⌝ }
 {
-    match speech_level {
-        SpeechLevel::Absent => RmsError::NoError,
-        SpeechLevel::Dbfs(level) => RmsError::Db(error_of(
-            hold(level),
-            target_range_min_dbfs,
-            target_range_max_dbfs,
-        )),
+    if !both_in_range(-90, 30, target_range_max_dbfs, target_range_min_dbfs) {
+        return SpeechError::Refused(Refusal::TargetRange);
     }
+    SpeechError::Error(rms_error(speech_level, target_range_min_dbfs, target_range_max_dbfs))
 }

@@ -7,3 +7,4 @@ pub mod Listed
 pub mod Ranges
 pub mod Loops
 pub mod Arrays
+pub mod Said

@@ -1,5 +1,6 @@
 pub mod Natural
 pub mod Refusal
+pub mod Said
 pub mod Sign
 pub mod First
 pub mod Listed

@@ -18,10 +18,10 @@ use gain_map::VolumeUpdate;
 use input_volume_controller::InputVolumeController;
 use mono_input_volume_controller::config::default_config;
 use mono_input_volume_controller::speech_level::RmsError;
+use mono_input_volume_controller::speech_level::SpeechError;
 use mono_input_volume_controller::speech_level::SpeechLevel;
 use mono_input_volume_controller::speech_level::get_speech_level_rms_error_db;
 use numbers::refusal::Outcome;
-use numbers::refusal::Refusal;
 
 pub struct Session {
     pub ring: ClippingPredictorLevelBuffer,
@@ -118,21 +118,22 @@ fn float(s: &[u8]) -> f32 {
     levels::bits::from_bits(text::bits(s, 2))
 }
 
-// The speech error, for targets that the settings may have.
+// The speech error.
 fn speech_error(s: &[u8]) {
     let level = float(s);
     let least = text::decimal(s, 11);
     let most = text::decimal(s, least.next);
-    let min = text::signed(least);
-    let max = text::signed(most);
-    if !mono_input_volume_controller::config::both_in_range(-90, 30, max, min) {
-        print::refusal(Refusal::TargetRange);
-        return;
-    }
-    let error = get_speech_level_rms_error_db(SpeechLevel::Dbfs(level), min, max);
-    match error {
-        RmsError::NoError => print::text(b"none"),
-        RmsError::Db(db) => print::number(db),
+    let answer = get_speech_level_rms_error_db(
+        SpeechLevel::Dbfs(level),
+        text::signed(least),
+        text::signed(most),
+    );
+    match answer {
+        SpeechError::Refused(cause) => print::refusal(cause),
+        SpeechError::Error(error) => match error {
+            RmsError::NoError => print::text(b"none"),
+            RmsError::Db(db) => print::number(db),
+        },
     }
 }
 

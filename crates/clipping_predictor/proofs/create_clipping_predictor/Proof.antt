@@ -5,11 +5,13 @@ use mir.ValLaws.{toZ-ofZ}
 use Rattle.numbers.specs.declared.natural.Natural.{Natural}
 use Rattle.numbers.specs.declared.natural.Natural.the-variants.{Number}
 use Rattle.numbers.specs.Natural.{withinOf}
+use Rattle.numbers.specs.Said.{outcomeSays}
 use Rattle.numbers.proofs.Ranges.{told}
 use Rattle.clipping_predictor.specs.declared.settings.Checked.{Checked}
 use Rattle.clipping_predictor.specs.Settings.{settingsOf}
 use Rattle.clipping_predictor.specs.Predictor.{maxChannels, Making, madeOf, makingOf}
 use Rattle.clipping_predictor.proofs.Rings.{good-settings}
+use Rattle.clipping_predictor.proofs.Says.{checked-fixed}
 use borrow.Author.Needs.{needs}
 use Rattle.clipping_predictor.proofs.create_clipping_predictor.Statement.{statement}
 use Rattle.clipping_predictor.proofs.create_clipping_predictor.Tie as tie
@@ -21,6 +23,9 @@ of-parts s a b p q = ap₂ madeOf (sym (ap (withinOf 1 maxChannels) (toZ-ofZ w32
 
 count-is : (c : tie.After-count) → withinOf 1 maxChannels (mir.Val.toZ w32 (mir.Val.ofZ w32 (c .before .before .before .args .num-channels))) ≡ Number (c .count .given .0 .0)
 count-is c = sym (c .before .before .within .ensures) ∙ c .count .given .1
+
+checked-is : (c : tie.After-check) → c .check .result ≡ settingsOf (c .before .before .before .before .before .args .config)
+checked-is c = checked-fixed (c .check .result) (settingsOf (c .before .before .before .before .before .args .config)) (c .check .ensures)
 
 within-requires : tie.Need-within-requires
 within-requires c κs = search needs
@@ -41,7 +46,7 @@ returns c =
     let s = w .before in
     let e = of-parts s _ (settingsOf (s .args .config)) (sym (w .within .ensures) ∙ c .before .enum-told .given .1) refl in
     let r = c .refused .ensures in
-    record { good = r .good; answer = r .answer ∙ sym (ap (λ (m : Making). m .answer) e); view = r .view ∙ sym (ap (λ (m : Making). m .predictor) e) }
+    record { good = r .good; answer = ap outcomeSays (r .answer ∙ sym (ap (λ (m : Making). m .answer) e)); view = r .view ∙ sym (ap (λ (m : Making). m .predictor) e) }
 
 check-requires : tie.Need-check-requires
 check-requires c κs = search needs
@@ -60,7 +65,7 @@ fresh-requires c κs =
     let k = c .before .before .before in
     let n = k .before .before in
     let t = told 1 maxChannels _ _ (count-is n) in
-    (good-settings _ _ (sym (k .check .ensures) ∙ c .before .checked2 .given .1), t .least, t .most)
+    (good-settings _ _ (sym (checked-is k) ∙ c .before .checked2 .given .1), t .least, t .most)
 
 returns-2 : tie.Need-returns-2
 unfolding madeOf
@@ -68,9 +73,9 @@ returns-2 c =
     let k = c .before .before .before .before in
     let n = k .before .before in
     let s = n .before .before .before in
-    let e = of-parts s _ _ (count-is n) (sym (k .check .ensures) ∙ c .before .before .checked .given .1) in
+    let e = of-parts s _ _ (count-is n) (sym (checked-is k) ∙ c .before .before .checked .given .1) in
     let r = c .refused2 .ensures in
-    record { good = r .good; answer = r .answer ∙ sym (ap (λ (m : Making). m .answer) e); view = r .view ∙ sym (ap (λ (m : Making). m .predictor) e) }
+    record { good = r .good; answer = ap outcomeSays (r .answer ∙ sym (ap (λ (m : Making). m .answer) e)); view = r .view ∙ sym (ap (λ (m : Making). m .predictor) e) }
 
 returns-3 : tie.Need-returns-3
 unfolding madeOf
@@ -78,9 +83,9 @@ returns-3 c =
     let k = c .before .before .before .before in
     let n = k .before .before in
     let s = n .before .before .before in
-    let e = of-parts s _ _ (count-is n) (sym (k .check .ensures) ∙ c .before .before .checked2 .given .1) in
+    let e = of-parts s _ _ (count-is n) (sym (checked-is k) ∙ c .before .before .checked2 .given .1) in
     let r = c .fresh .ensures in
-    record { good = r .good; answer = sym (ap (λ (m : Making). m .answer) e); view = r .view ∙ sym (ap (λ (m : Making). m .predictor) e) }
+    record { good = r .good; answer = ap outcomeSays (sym (ap (λ (m : Making). m .answer) e)); view = r .view ∙ sym (ap (λ (m : Making). m .predictor) e) }
 
 pub create-clipping-predictor-spec : {M : Type 1} → statement M
 create-clipping-predictor-spec =

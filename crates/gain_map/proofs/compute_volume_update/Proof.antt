@@ -10,7 +10,7 @@ use Rattle.numbers.specs.Natural.{withinOf}
 use Rattle.numbers.proofs.Signs.{read}
 use Rattle.numbers.proofs.Ranges.{told}
 use Rattle.gain_map.specs.declared.VolumeUpdate.the-variants.{Volume}
-use Rattle.gain_map.specs.VolumeUpdate.{volumeUpdateOf}
+use Rattle.gain_map.specs.VolumeUpdate.{updateSays, volumeUpdateOf}
 use Rattle.gain_map.proofs.Paths.{no-minimum, no-volume, no-maximum, above-maximum, steps-to}
 use Rattle.gain_map.proofs.compute_volume_update.Statement.{statement}
 use Rattle.gain_map.proofs.compute_volume_update.Tie as tie
@@ -50,7 +50,7 @@ enum-told : tie.Need-enum-told
 enum-told c = search needs
 
 returns : tie.Need-returns
-returns c = no-minimum _ _ _ _ (sym (c .before .before .within .ensures) ∙ c .enum-told .given .1) ∙ back (c .before .before .before)
+returns c = ap updateSays (no-minimum _ _ _ _ (sym (c .before .before .within .ensures) ∙ c .enum-told .given .1) ∙ back (c .before .before .before))
 
 within-requires-2 : tie.Need-within-requires-2
 within-requires-2 c κs = search needs
@@ -65,7 +65,7 @@ returns-2 : tie.Need-returns-2
 returns-2 c =
     let w = c .before .before in
     let l = w .before .before in
-    no-volume _ _ _ _ _ (low-is l) (sym (w .within2 .ensures) ∙ c .enum-told2 .given .1) ∙ back (l .before .before .before)
+    ap updateSays (no-volume _ _ _ _ _ (low-is l) (sym (w .within2 .ensures) ∙ c .enum-told2 .given .1) ∙ back (l .before .before .before))
 
 within-requires-3 : tie.Need-within-requires-3
 within-requires-3 c κs = search needs
@@ -81,14 +81,14 @@ returns-3 c =
     let w = c .before .before in
     let e = w .before .before in
     let l = low-of e in
-    no-maximum _ _ _ _ _ (low-is l) _ (here-is e) (sym (w .within3 .ensures) ∙ c .enum-told3 .given .1) ∙ back (l .before .before .before)
+    ap updateSays (no-maximum _ _ _ _ _ (low-is l) _ (here-is e) (sym (w .within3 .ensures) ∙ c .enum-told3 .given .1) ∙ back (l .before .before .before))
 
 returns-4 : tie.Need-returns-4
 returns-4 c =
     let h = c .before .before in
     let e = here-of h in
     let l = low-of e in
-    above-maximum _ _ _ _ _ (low-is l) _ (here-is e) _ (high-is h) (c .if1 .taken) ∙ back (l .before .before .before)
+    ap updateSays (above-maximum _ _ _ _ _ (low-is l) _ (here-is e) _ (high-is h) (c .if1 .taken) ∙ back (l .before .before .before))
 
 cast-walk-from : tie.Need-cast-walk-from
 cast-walk-from c = omega (arith, told _ _ _ _ (here-is (here-of (c .before .before))))
@@ -110,8 +110,9 @@ returns-5 c =
     let h = c .before .before .before in
     let e = here-of h in
     let l = low-of e in
-    ap Volume (toZ-pos w32 _ (cast-t20 c .sfits) ∙ ap pos (c .walk-from .ensures)) ∙ steps-to _ _ _ _ _ (low-is l) _ (here-is e) _ (high-is h) (c .before .if1 .left)
-    ∙ back (l .before .before .before)
+    ap updateSays
+    (ap Volume (toZ-pos w32 _ (cast-t20 c .sfits) ∙ ap pos (c .walk-from .ensures)) ∙ steps-to _ _ _ _ _ (low-is l) _ (here-is e) _ (high-is h) (c .before .if1 .left)
+    ∙ back (l .before .before .before))
 
 pub compute-volume-update-spec : {M : Type 1} → statement M
 compute-volume-update-spec =

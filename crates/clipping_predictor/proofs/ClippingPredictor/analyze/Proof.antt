@@ -1,6 +1,7 @@
 -- `ClippingPredictor::analyze` meets its contract. Assumes nothing.
 use mathlib.Core.Path.{ap, _∙_}
 use native.Mathlib.Omega.{arith}
+use Rattle.numbers.specs.Said.{outcomeSays}
 use Rattle.clipping_predictor.specs.Predictor.{outcomeIf}
 use borrow.Author.Needs.{needs}
 use Rattle.clipping_predictor.proofs.ClippingPredictor.analyze.Statement.{statement}
@@ -19,7 +20,7 @@ heard-requires : tie.Need-heard-requires
 heard-requires c κs = search needs
 
 returns : tie.Need-returns
-returns c = record { answer = c .before .before .outcome-of .ensures ∙ ap outcomeIf (c .before .before .before .frame-fits .ensures); entered = c .before .heard .ensures .entered }
+returns c = record { answer = ap outcomeSays (c .before .before .outcome-of .ensures ∙ ap outcomeIf (c .before .before .before .frame-fits .ensures)); entered = c .before .heard .ensures .entered }
 
 pub analyze-spec : {M : Type 1} → statement M
 analyze-spec = tie.close (tie.spec cast-frame-fits frame-fits-requires outcome-of-requires heard-requires returns)

@@ -8,9 +8,10 @@ use mir.ValLaws.{toZ-ofZ}
 use Rattle.numbers.proofs.Listed.{getD-listed}
 use Rattle.clipping_predictor_level_buffer.specs.declared.level.Level.{Level}
 use Rattle.clipping_predictor_level_buffer.specs.Ring.{stored}
+use Rattle.clipping_predictor.specs.declared.Arguments.{Arguments}
 use Rattle.clipping_predictor.specs.declared.Arguments.the-variants.{Given}
 use Rattle.clipping_predictor.specs.Estimate.{estimateTree, estimated}
-use Rattle.clipping_predictor.specs.Predictor.{ringAt, viewOf, argumentsOf, answered, estimateOf}
+use Rattle.clipping_predictor.specs.Predictor.{ringAt, viewOf, argumentsOf, answered, estimateSays, estimateOf}
 use Rattle.clipping_predictor.proofs.Given.{channel-below}
 use borrow.Author.Needs.{needs}
 use Rattle.clipping_predictor.proofs.ClippingPredictor.estimate_clipped_level_step.Statement.{statement}
@@ -56,7 +57,7 @@ answer-of-requires c κs = search needs
 
 returns : tie.Need-returns
 unfolding estimateOf
-returns c = sym (ap (estimateOf (viewOf (c .before .before .before .before .args .t1))) (asked (c .before .before .before) ∙ c .before .given .given .1))
+returns c = sym (ap (λ (a : Arguments). estimateSays (estimateOf (viewOf (c .before .before .before .before .args .t1)) a)) (asked (c .before .before .before) ∙ c .before .given .given .1))
 
 returns-2 : tie.Need-returns-2
 unfolding estimateOf viewOf
@@ -65,9 +66,10 @@ returns-2 c =
     let p = k .before .before .before .before .args .t1 in
     let n = k .before .given2 .given .0 .0 in
     let a = k .before .given2 .given .0 .1 .0 in
-    c .answer-of .ensures ∙ ap answered (c .before .estimate-for .ensures)
+    ap estimateSays
+    (c .answer-of .ensures ∙ ap answered (c .before .estimate-for .ensures)
     ∙ sym (ap (λ (r : List Level). answered (estimated (estimateTree (p .settings) r a))) (getD-listed (λ c. stored (ringAt p c)) (p .channels) n [] (below k)))
-    ∙ sym (ap (estimateOf (viewOf p)) (given-is k))
+    ∙ sym (ap (estimateOf (viewOf p)) (given-is k)))
 
 pub estimate-clipped-level-step-spec : {M : Type 1} → statement M
 estimate-clipped-level-step-spec =

@@ -5,6 +5,7 @@ use borrow.Author.Tests.{not-true, not-false}
 use Rattle.clipping_predictor_level_buffer.specs.declared.Metrics.{Metrics}
 use Rattle.clipping_predictor_level_buffer.specs.Ring.{stored}
 use Rattle.clipping_predictor_level_buffer.specs.Metrics.{partialMetrics}
+use Rattle.clipping_predictor_level_buffer.proofs.Says.{metrics-fixed}
 use Rattle.clipping_predictor.specs.Estimate.{windowsTree, estimated}
 use Rattle.clipping_predictor.proofs.Windows.{off, low, on}
 use borrow.Author.Needs.{needs}
@@ -43,8 +44,8 @@ returns-3 c =
     let p = s .pre .capacity in
     c .from-windows .ensures
     ∙ ap₂ (λ (m r : Metrics). estimated (windowsTree (s .args .s) (s .args .a) m r))
-    (c .before .before .partial-metrics .ensures ∙ ap (λ (n : ℕ). partialMetrics n (stored (s .args .ring)) 0 (s .args .s .window)) p)
-    (c .before .partial-metrics2 .ensures ∙ ap (λ (n : ℕ). partialMetrics n (stored (s .args .ring)) (s .args .s .delay) (s .args .s .reference)) p)
+    (metrics-fixed (c .before .before .partial-metrics .result) (partialMetrics (s .args .ring .capacity) (stored (s .args .ring)) 0 (s .args .s .window)) (c .before .before .partial-metrics .ensures) ∙ ap (λ (n : ℕ). partialMetrics n (stored (s .args .ring)) 0 (s .args .s .window)) p)
+    (metrics-fixed (c .before .partial-metrics2 .result) (partialMetrics (s .args .ring .capacity) (stored (s .args .ring)) (s .args .s .delay) (s .args .s .reference)) (c .before .partial-metrics2 .ensures) ∙ ap (λ (n : ℕ). partialMetrics n (stored (s .args .ring)) (s .args .s .delay) (s .args .s .reference)) p)
     ∙ sym (ap estimated (on (s .args .s) (stored (s .args .ring)) (s .args .a) (not-false _ (e .before .before .if1 .left)) (e .if2 .left)))
 
 pub estimate-for-spec : {M : Type 1} → statement M

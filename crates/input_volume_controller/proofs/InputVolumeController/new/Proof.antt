@@ -3,6 +3,7 @@ use mathlib.Core.Path.{_≡_, refl, sym, ap, ap₂, _∙_}
 use Rattle.numbers.specs.declared.natural.Natural.{Natural}
 use Rattle.numbers.specs.declared.natural.Natural.the-variants.{Number}
 use Rattle.numbers.specs.Natural.{withinOf}
+use Rattle.numbers.specs.Said.{outcomeSays}
 use Rattle.numbers.proofs.Signs.{read, again}
 use Rattle.numbers.proofs.Ranges.{told}
 use Rattle.clipping_predictor.specs.Predictor.{maxChannels}
@@ -10,6 +11,7 @@ use Rattle.mono_input_volume_controller.specs.declared.config.Checked.{Checked}
 use Rattle.mono_input_volume_controller.specs.Config.{settingsOf}
 use Rattle.input_volume_controller.specs.Controller.{Making, madeOf, makingOf}
 use Rattle.mono_input_volume_controller.proofs.Checked.{checked-good}
+use Rattle.mono_input_volume_controller.proofs.Says.{checked-fixed}
 use borrow.Author.Needs.{needs}
 use Rattle.input_volume_controller.proofs.InputVolumeController.new.Statement.{statement}
 use Rattle.input_volume_controller.proofs.InputVolumeController.new.Tie as tie
@@ -21,6 +23,9 @@ of-parts s a b p q = ap₂ madeOf (sym (ap (withinOf 1 maxChannels) (again (s .a
 
 count-is : (c : tie.After-count) → withinOf 1 maxChannels (read (c .before .before .before .args .num-capture-channels)) ≡ Number (c .count .given .0 .0)
 count-is c = sym (c .before .before .within .ensures) ∙ c .count .given .1
+
+checked-is : (c : tie.After-check) → c .check .result ≡ settingsOf (c .before .before .before .before .before .args .config)
+checked-is c = checked-fixed (c .check .result) (settingsOf (c .before .before .before .before .before .args .config)) (c .check .ensures)
 
 within-requires : tie.Need-within-requires
 within-requires c κs = search needs
@@ -41,7 +46,7 @@ returns c =
     let s = w .before in
     let e = of-parts s _ (settingsOf (s .args .config)) (sym (w .within .ensures) ∙ c .before .enum-told .given .1) refl in
     let r = c .refused .ensures in
-    record { good = r .good; answer = r .answer ∙ sym (ap (λ (m : Making). m .answer) e); view = r .view ∙ sym (ap (λ (m : Making). m .controller) e) }
+    record { good = r .good; answer = ap outcomeSays (r .answer ∙ sym (ap (λ (m : Making). m .answer) e)); view = r .view ∙ sym (ap (λ (m : Making). m .controller) e) }
 
 check-requires : tie.Need-check-requires
 check-requires c κs = search needs
@@ -59,25 +64,25 @@ fresh-requires : tie.Need-fresh-requires
 fresh-requires c κs =
     let k = c .before .before .before in
     let t = told 1 maxChannels _ _ (count-is (k .before .before)) in
-    (t .least, t .most, checked-good _ _ (sym (k .check .ensures) ∙ c .before .checked2 .given .1))
+    (t .least, t .most, checked-good _ _ (sym (checked-is k) ∙ c .before .checked2 .given .1))
 
 returns-2 : tie.Need-returns-2
 unfolding madeOf
 returns-2 c =
     let k = c .before .before .before .before in
     let n = k .before .before in
-    let e = of-parts (n .before .before .before) _ _ (count-is n) (sym (k .check .ensures) ∙ c .before .before .checked .given .1) in
+    let e = of-parts (n .before .before .before) _ _ (count-is n) (sym (checked-is k) ∙ c .before .before .checked .given .1) in
     let r = c .refused2 .ensures in
-    record { good = r .good; answer = r .answer ∙ sym (ap (λ (m : Making). m .answer) e); view = r .view ∙ sym (ap (λ (m : Making). m .controller) e) }
+    record { good = r .good; answer = ap outcomeSays (r .answer ∙ sym (ap (λ (m : Making). m .answer) e)); view = r .view ∙ sym (ap (λ (m : Making). m .controller) e) }
 
 returns-3 : tie.Need-returns-3
 unfolding madeOf
 returns-3 c =
     let k = c .before .before .before .before in
     let n = k .before .before in
-    let e = of-parts (n .before .before .before) _ _ (count-is n) (sym (k .check .ensures) ∙ c .before .before .checked2 .given .1) in
+    let e = of-parts (n .before .before .before) _ _ (count-is n) (sym (checked-is k) ∙ c .before .before .checked2 .given .1) in
     let r = c .fresh .ensures in
-    record { good = r .good; answer = sym (ap (λ (m : Making). m .answer) e); view = r .is ∙ sym (ap (λ (m : Making). m .controller) e) }
+    record { good = r .good; answer = ap outcomeSays (sym (ap (λ (m : Making). m .answer) e)); view = r .is ∙ sym (ap (λ (m : Making). m .controller) e) }
 
 pub new-spec : {M : Type 1} → statement M
 new-spec = tie.close (tie.spec within-requires enum-known-count enum-told refused-requires returns check-requires enum-known-checked refused-requires-2 enum-known-checked-2 fresh-requires returns-2 returns-3)

@@ -1,12 +1,12 @@
 -- `config::check` meets its contract: each return by the tests that lead there. Assumes nothing.
-use mathlib.Core.Path.{_≡_, sym, _∙_}
+use mathlib.Core.Path.{_≡_, sym, ap, _∙_}
 use mathlib.Core.Bool.{true}
 use lib.IntN.{pos, negsuc}
 use borrow.Author.Needs.{needs}
 use borrow.Author.Tests.{not-true, not-false}
 use Rattle.numbers.proofs.Signs.{again}
 use Rattle.mono_input_volume_controller.specs.declared.config.Config.{Config}
-use Rattle.mono_input_volume_controller.specs.Config.{inRange, bothInRange, volumesInRange, stepInRange, waitsInRange, targetsInRange, InOrder}
+use Rattle.mono_input_volume_controller.specs.Config.{inRange, bothInRange, volumesInRange, stepInRange, waitsInRange, targetsInRange, InOrder, checkedSays}
 use Rattle.mono_input_volume_controller.proofs.Settings.{first-volumes, first-step, first-waits, first-targets, first-thresholds, no-cause}
 use Rattle.mono_input_volume_controller.proofs.config.check.Statement.{statement}
 use Rattle.mono_input_volume_controller.proofs.config.check.Tie as tie
@@ -81,13 +81,13 @@ both-in-range-requires : tie.Need-both-in-range-requires
 both-in-range-requires c κs = search needs
 
 returns : tie.Need-returns
-returns c = first-volumes (config1 (c .before)) (sym (volumes (c .before)) ∙ not-true _ (c .if1 .taken))
+returns c = ap checkedSays (first-volumes (config1 (c .before)) (sym (volumes (c .before)) ∙ not-true _ (c .if1 .taken)))
 
 in-range-requires : tie.Need-in-range-requires
 in-range-requires c κs = search needs
 
 returns-2 : tie.Need-returns-2
-returns-2 c = first-step (config2 (c .before)) (volumes-pass (c .before .before .before)) (sym (step (c .before)) ∙ not-true _ (c .if2 .taken))
+returns-2 c = ap checkedSays (first-step (config2 (c .before)) (volumes-pass (c .before .before .before)) (sym (step (c .before)) ∙ not-true _ (c .if2 .taken)))
 
 both-in-range-requires-2 : tie.Need-both-in-range-requires-2
 both-in-range-requires-2 c κs = search needs
@@ -95,7 +95,7 @@ both-in-range-requires-2 c κs = search needs
 returns-3 : tie.Need-returns-3
 returns-3 c =
     let two = c .before .before .before .before in
-    first-waits (config3 (c .before)) (volumes-pass (two .before .before .before)) (step-passes two) (sym (waits (c .before)) ∙ not-true _ (c .if3 .taken))
+    ap checkedSays (first-waits (config3 (c .before)) (volumes-pass (two .before .before .before)) (step-passes two) (sym (waits (c .before)) ∙ not-true _ (c .if3 .taken)))
 
 both-in-range-requires-3 : tie.Need-both-in-range-requires-3
 both-in-range-requires-3 c κs = search needs
@@ -104,7 +104,7 @@ returns-4 : tie.Need-returns-4
 returns-4 c =
     let three = c .before .before .before .before in
     let two = three .before .before .before .before in
-    first-targets (config4 (c .before)) (volumes-pass (two .before .before .before)) (step-passes two) (waits-pass three) (sym (targets (c .before)) ∙ not-true _ (c .if4 .taken))
+    ap checkedSays (first-targets (config4 (c .before)) (volumes-pass (two .before .before .before)) (step-passes two) (waits-pass three) (sym (targets (c .before)) ∙ not-true _ (c .if4 .taken)))
 
 both-in-unit-requires : tie.Need-both-in-unit-requires
 both-in-unit-requires c κs = search needs
@@ -112,13 +112,13 @@ both-in-unit-requires c κs = search needs
 returns-5 : tie.Need-returns-5
 returns-5 c =
     let p = passed (c .before) in
-    first-thresholds (config5 (c .before)) (p .0) (p .1) (p .2) (p .3) (sym (c .before .both-in-unit .ensures) ∙ not-true _ (c .if5 .taken))
+    ap checkedSays (first-thresholds (config5 (c .before)) (p .0) (p .1) (p .2) (p .3) (sym (c .before .both-in-unit .ensures) ∙ not-true _ (c .if5 .taken)))
 
 kept-requires : tie.Need-kept-requires
 kept-requires c κs = in-order c
 
 returns-6 : tie.Need-returns-6
-returns-6 c = no-cause (config5 (c .before .before)) (c .kept .result) (in-order (c .before)) (c .kept .ensures)
+returns-6 c = ap checkedSays (no-cause (config5 (c .before .before)) (c .kept .result) (in-order (c .before)) (c .kept .ensures))
 
 pub check-spec : {M : Type 1} → statement M
 check-spec =

@@ -19,8 +19,8 @@ low c = let t = c .pre .settings .targets in again _ (target-small _ (t .min-low
 high : (c : tie.Start) → read (c .args .self .settings .«max_target») ≡ c .args .self .settings .«max_target»
 high c = let t = c .pre .settings .targets in again _ (target-small _ (t .max-low) (t .max-high))
 
-get-speech-level-rms-error-db-requires : tie.Need-get-speech-level-rms-error-db-requires
-get-speech-level-rms-error-db-requires c κs = let s = c .before .before in rw (low s, high s) (s .pre .settings .targets)
+speech-error-requires : tie.Need-speech-error-requires
+speech-error-requires c κs = let s = c .before .before in rw (low s, high s) (s .pre .settings .targets)
 
 called-requires : tie.Need-called-requires
 called-requires c κs = search needs
@@ -31,8 +31,8 @@ returns c =
     let g = c .before in
     let s = g .before .before .before in
     let e = c .called .ensures in
-    let error = g .get-speech-level-rms-error-db .ensures ∙ (λ i. rmsErrorOf (s .args .speech-level) (low s i) (high s i)) in
+    let error = g .speech-error .ensures ∙ (λ i. rmsErrorOf (s .args .speech-level) (low s i) (high s i)) in
     record { good = e .good; is = e .is ∙ ap (λ (x : RmsError). withApplied Nothing (aggregated (eachChannel (Process x (s .args .speech-probability)) (controlOf (s .args .self))))) error }
 
 pub process-channels-spec : {M : Type 1} → statement M
-process-channels-spec = tie.close (tie.spec get-speech-level-rms-error-db-requires called-requires returns)
+process-channels-spec = tie.close (tie.spec speech-error-requires called-requires returns)

@@ -1,10 +1,10 @@
--- `VolumeControl::lower_channels` meets its contract. Assumes nothing.
+-- `lower_channels` meets its contract. Assumes nothing.
 use Rattle.input_volume_controller.specs.Control.{withSince}
 use Rattle.input_volume_controller.specs.ControlCalls.{lowerChannels, aggregated}
 use Rattle.input_volume_controller.proofs.Volumes.{then, with-since}
 use borrow.Author.Needs.{needs}
-use Rattle.input_volume_controller.proofs.volume_control.VolumeControl.lower_channels.Statement.{statement}
-use Rattle.input_volume_controller.proofs.volume_control.VolumeControl.lower_channels.Tie as tie
+use Rattle.input_volume_controller.proofs.volume_control.lower_channels.Statement.{statement}
+use Rattle.input_volume_controller.proofs.volume_control.lower_channels.Tie as tie
 
 each-requires : tie.Need-each-requires
 each-requires c κs = search needs

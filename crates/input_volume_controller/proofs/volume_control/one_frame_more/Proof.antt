@@ -1,9 +1,9 @@
--- `VolumeControl::one_frame_more` meets its contract. Assumes nothing.
+-- `one_frame_more` meets its contract. Assumes nothing.
 use mathlib.Core.Path.{refl}
 use Rattle.input_volume_controller.specs.Control.{controlOf}
 use borrow.Author.Needs.{needs}
-use Rattle.input_volume_controller.proofs.volume_control.VolumeControl.one_frame_more.Statement.{statement}
-use Rattle.input_volume_controller.proofs.volume_control.VolumeControl.one_frame_more.Tie as tie
+use Rattle.input_volume_controller.proofs.volume_control.one_frame_more.Statement.{statement}
+use Rattle.input_volume_controller.proofs.volume_control.one_frame_more.Tie as tie
 
 add-c : tie.Need-add-c
 add-c c = search needs

@@ -1,0 +1,46 @@
+-- What an answer says fixes the answer: each function that puts an enum into numbers and values has a way back. Assumes nothing.
+use mathlib.Core.Path.{_≡_, refl, sym, ap, _∙_}
+use mathlib.Core.List.{List, [], _∷_}
+use Prim.Native.Nat.{ℕ}
+use lib.ListN.{getD}
+use Rattle.numbers.specs.declared.refusal.Refusal.{Refusal}
+use Rattle.numbers.specs.declared.refusal.Refusal.the-variants.{ChannelCount, MinimumVolume, ClippedLevelStep, WaitFrames, TargetRange, SpeechThreshold, PredictorConfig, InputVolume, FrameSize, EstimateRange, RingRange, FrameLine}
+use Rattle.numbers.specs.declared.refusal.Outcome.{Outcome}
+use Rattle.numbers.specs.declared.refusal.Outcome.the-variants.{Accepted, Refused}
+use Rattle.numbers.specs.Refusal.{numberOf}
+use Rattle.numbers.specs.Said.{Said, accepted, refused, outcomeSays}
+
+pub fixed : {A B : Type 0} (says : A → B) (back : B → A) → ((a : A) → back (says a) ≡ a) → (a b : A) → says a ≡ says b → a ≡ b
+fixed says back same a b e = sym (same a) ∙ ap back e ∙ same b
+
+-- the cause of a number; there is none of 0
+abbrev pub causeOf : ℕ → Refusal
+causeOf n =
+    getD
+    (FrameLine ∷ ChannelCount ∷ MinimumVolume ∷ ClippedLevelStep ∷ WaitFrames ∷ TargetRange ∷ SpeechThreshold ∷ PredictorConfig ∷ InputVolume ∷ FrameSize ∷ EstimateRange ∷ RingRange ∷ [])
+    n FrameLine
+
+pub cause-back : (cause : Refusal) → causeOf (numberOf cause) ≡ cause
+cause-back ChannelCount = refl
+cause-back MinimumVolume = refl
+cause-back ClippedLevelStep = refl
+cause-back WaitFrames = refl
+cause-back TargetRange = refl
+cause-back SpeechThreshold = refl
+cause-back PredictorConfig = refl
+cause-back InputVolume = refl
+cause-back FrameSize = refl
+cause-back EstimateRange = refl
+cause-back RingRange = refl
+cause-back FrameLine = refl
+
+abbrev outcomeOf : Said (Unit {0}) → Outcome
+outcomeOf (accepted u) = Accepted
+outcomeOf (refused number) = Refused (causeOf number)
+
+outcome-back : (o : Outcome) → outcomeOf (outcomeSays o) ≡ o
+outcome-back Accepted = refl
+outcome-back (Refused cause) = ap Refused (cause-back cause)
+
+pub outcome-fixed : (a b : Outcome) → outcomeSays a ≡ outcomeSays b → a ≡ b
+outcome-fixed = fixed outcomeSays outcomeOf outcome-back
