@@ -107,6 +107,9 @@ pub record RefusedWith (cause : Refusal) (r : Created) : Type 0 where
 
 -- ---- frames
 
+-- What the contracts of the calls leave free is, of each ring, what the ring's own leave free, and all of the rings past the channel count. They are there: `good` has 8 rings. No answer of any later
+-- call depends on them, since each contract speaks of `viewOf` alone.
+
 -- "the part that starts at channel × samples"
 abbrev pub partOf : ℕ → List Float → ℕ → List Float
 partOf samples frame channel = take samples (drop (channel * samples) frame)

@@ -68,6 +68,9 @@ storedAt (l ∷ ls) (suc i) = storedAt ls i
 
 -- ---- what becomes of them
 
+-- What the contracts below leave free is where the tail stands and what lies in the unused places. Both are there: `good` has the 64 places, and the tail among the ring's own. No call reads more of a
+-- ring than its capacity and its stored records, as the contracts say, so no later answer depends on them; of a whole controller the claim `FreeIsUnheard` says so.
+
 -- "a push into a full one replaces the oldest"
 abbrev pub push : ℕ → Level → List Level → List Level
 push capacity level records = take capacity (level ∷ records)

@@ -66,7 +66,8 @@ Typed (recommendation probability level) = Unit {0}
 Typed initialise = Unit {0}
 Typed (captureSwitch on) = Unit {0}
 
--- r is what the call hands back, and it says what the definition says
+-- r is what the call hands back, and it says what the definition says. Left free are the channels and the rings past the count, and of each ring its tail and its unused places. They are there:
+-- `good` has 8 channels, 8 rings, and 64 places in each. No answer of any later call depends on them: the claim `FreeIsUnheard` (claims, specs/Free.antt).
 pub record Does (self : InputVolumeController) (call : Call) (says : Reply) (r : InputVolumeController) : Type 0 where
   pub good : Good r
   pub typed : Typed call
