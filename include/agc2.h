@@ -8,9 +8,17 @@
  *     int32_t recommended;
  *     if (agc2_recommend_input_volume(&controller, 0.9f, &level, &recommended)) { .. apply it .. }
  *
- * A call answers 0, or the number of its refusal (agc2_words), and a refused call leaves the controller as it was. No argument is out of bounds but
- * two kinds: a pointer must be valid, with as many samples behind it as the count says, none of them within the controller; and a controller
- * must be one that agc2_new accepted and that nobody else wrote to. A controller has no pointer in it and may be copied and moved; two threads must not use one at once. */
+ * A frame is 10 ms of sound, at up to 48 kHz, as floats on the 16-bit scale, -32768 to 32767. Samples from -1.0 to 1.0 are all but silence on it and never clip.
+ *
+ * A call answers 0, or the number of its refusal (agc2_words), and a refused call leaves the controller's state, the words in it, as it was. In front of the state stand
+ * the last answers: a frame, refused or not, writes `refusal` and `near` and sets `present` and `volume` to 0; a recommendation writes `present` and `volume`.
+ *
+ * No argument is out of bounds but two kinds: a pointer must be valid, with as many samples behind it as the count says, none of them within the controller; and a controller
+ * must be one that agc2_new accepted and that nobody else wrote to. A controller has no pointer in it and may be copied and moved; two threads must not use one at once.
+ * The proofs take floats to work as they do by default: rounded to nearest, with no subnormal number flushed to zero.
+ *
+ * The stack that a call needs, as measured with clang and gcc at -O0 and -O2: 15.9 KB for a frame, 9.8 KB for agc2_new and agc2_stored_record, 2.9 KB for any other; where memcpy
+ * is bound late, the first call needs 3 KB more. */
 #ifndef AGC2_H
 #define AGC2_H
 
@@ -75,7 +83,7 @@ typedef struct agc2_control {
     agc2_control_state state;
 } agc2_control;
 
-/* With the answer to its making or to its last frame: 0 or the refusal's number, and 1 if the frame is marked near. */
+/* With the answer to its making or to its last frame: 0 or the refusal's number, and 1 if the frame is marked near; a refused one is not. */
 typedef struct agc2_controller {
     uint32_t refusal;
     uint32_t near;
@@ -98,6 +106,7 @@ typedef struct agc2_layout_of {
 
 agc2_config agc2_default_config(void);
 agc2_layout_of agc2_layout(void);
+/* Beside the number of a refusal stands a working controller of one channel with the default settings. */
 agc2_controller agc2_new_by_value(int32_t num_capture_channels, agc2_config config);
 agc2_control_state agc2_initialize_by_value(agc2_control_state control);
 agc2_control_state agc2_handle_capture_output_used_change_by_value(agc2_control_state control, uint32_t capture_output_used);
@@ -117,30 +126,31 @@ static inline uint32_t agc2_new(agc2_controller *controller, int32_t num_capture
     return made.refusal;
 }
 
-/* Starts anew, but keeps the rings, the startup, the volumes and the wait after clipping. */
+/* Starts anew, with capture on, but keeps the rings, the startup, the volumes and the wait after clipping. A recommendation is none then until a frame comes. */
 static inline void agc2_initialize(agc2_controller *controller) {
     controller->control.state = agc2_initialize_by_value(controller->control.state);
 }
 
-/* While the captured sound is not used (0), frames only set the volume and recommendations repeat it. */
+/* While the captured sound is not used (0), frames only set the volume, and recommendations repeat it, as often as they are asked. */
 static inline void agc2_handle_capture_output_used_change(agc2_controller *controller, uint32_t capture_output_used) {
     controller->control.state = agc2_handle_capture_output_used_change_by_value(controller->control.state, capture_output_used);
 }
 
-/* A frame, captured at the volume that is applied: the channels one after another, each of samples_per_channel samples on the 16-bit
- * scale, count in all. Refuses with 8 and 9. */
+/* A frame of 10 ms, captured at the volume that is applied: the channels one after another, each of samples_per_channel samples, 1 to 480, on the 16-bit
+ * scale, count in all. Refuses with 8 and 9, with capture off too. */
 static inline uint32_t agc2_analyze_input_audio(agc2_controller *controller, int32_t applied_input_volume, size_t samples_per_channel, const float *samples, size_t count) {
     agc2_analyze_input_audio_into(controller, applied_input_volume, samples_per_channel, samples, count);
     return controller->refusal;
 }
 
-/* 1 if an estimate of the last frame compared two levels so close that the original, which rounds logarithms, may have decided otherwise, else 0. */
+/* 1 if an estimate of the last frame compared two levels so close that the original, which rounds logarithms, may have decided otherwise, else 0; 0 after a
+ * refused frame. What follows may then differ from the original without a mark. */
 static inline uint32_t agc2_near(const agc2_controller *controller) {
     return controller->near;
 }
 
-/* 1 with the volume to apply in *volume; or 0, with *volume as it was, where no frame came since the last recommendation. A null speech
- * level is none. */
+/* 1 with the volume to apply in *volume; or 0, with *volume as it was, where no frame was accepted since the making, the last agc2_initialize or the last
+ * recommendation with capture on, whichever came latest. With capture off it is the volume of the last frame, again and again. A null speech level is none. */
 static inline uint32_t agc2_recommend_input_volume(agc2_controller *controller, float speech_probability, const float *speech_level_dbfs, int32_t *volume) {
     agc2_recommend_input_volume_into(&controller->control, speech_probability, speech_level_dbfs != NULL, speech_level_dbfs != NULL ? *speech_level_dbfs : 0.0f);
     if (controller->control.present != 0) {

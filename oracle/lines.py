@@ -3,7 +3,7 @@
 
     lines.py gather DIR CRATE    writes CRATE/stdin and CRATE/stdout from the files t_*.in and t_*.exp of DIR, the supplied vectors
     lines.py many LINES SEED     writes LINES lines of 480 samples to standard output
-    lines.py measure TEXT PROGRAM ..   runs each PROGRAM on TEXT, in turns, five times: the least and the most seconds
+    lines.py measure TEXT PROGRAM ..   runs each PROGRAM on TEXT, in turns, 15 times: the least and the most seconds
 
 What `gather` writes: the bytes of each file and behind them a byte 28, which no file has (it is ASCII's separator of files); and the expected answers of all files one after another, as they were supplied.
 """
@@ -49,7 +49,7 @@ def many(count, seed):
 
 def measure(text, programs):
     taken = {p: [] for p in programs}
-    for _ in range(5):
+    for _ in range(15):
         for p in programs:
             with open(text, "rb") as f:
                 start = time.monotonic()
