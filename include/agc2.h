@@ -10,7 +10,7 @@
  *
  * A frame is 10 ms of sound, at up to 48 kHz, as floats on the 16-bit scale, -32768 to 32767. Samples from -1.0 to 1.0 are all but silence on it and never clip.
  *
- * A call answers 0, or the number of its refusal (agc2_words), and a refused call leaves the controller's state, the words in it, as it was. In front of the state stand
+ * A call answers 0, or the number of its refusal (agc2_words), and a refused call leaves the controller's state, the words in it, as it was, byte for byte. In front of the state stand
  * the last answers: a frame, refused or not, writes `refusal` and `near` and sets `present` and `volume` to 0; a recommendation writes `present` and `volume`.
  *
  * No argument is out of bounds but two kinds: a pointer must be valid, with as many samples behind it as the count says, none of them within the controller; and a controller
@@ -66,10 +66,11 @@ typedef struct agc2_record {
     float max;
 } agc2_record;
 
-/* ---- a controller; the words in it belong to the library */
+/* ---- a controller; the words in it belong to the library. Every byte is written: equal settings and calls make equal bytes. A frame, refused or not, also writes
+ * the four words that are no state: refusal and near, its answer, and present and volume, 0 until the next recommendation. */
 
 typedef struct agc2_control_state {
-    uint64_t words[40];
+    uint64_t words[39];
 } agc2_control_state;
 
 typedef struct agc2_predictor_state {

@@ -1,11 +1,12 @@
 #!/usr/bin/env python3
-"""Wrong definitions against the claims: each must break one.
+"""Wrong definitions against the claims: each must break the claim that rules it out.
 
 usage: definitions.py [FOLDER]     from the repository's root; FOLDER (a new one) keeps the copy that is worked in
 
-A must-fail edit cannot leave its crate, and a wrong definition of the controller is refused there already, where the functions no longer meet it. To see what the claims say by
-themselves, this works in a copy of the tree in which `input_volume_controller` and `frame_answers` have their types and definitions but no functions. Each edit is applied there, the crate
-`claims` is checked, and the first thing that no longer holds is printed. Exits with 1 if an edit breaks no claim.
+A must-fail edit cannot leave its crate, and a wrong definition is refused there already, where the functions no longer meet it. To see what the claims say by themselves, this works in a copy
+of the tree in which the crates below `claims` have their types and definitions alone: no functions, and no proofs but the laws that the claims rest on, which stand beside the claims. There each
+claim of the page is a declaration of its own, so that the prover says of each whether its proof still stands. Each edit is applied, and the claim that is false of it is printed, with the first
+fact that no longer holds among those that its proof rests on, and all claims whose proof falls. Exits with 1 if the proof of that claim stands, or falls at no fact.
 """
 import os
 import re
@@ -13,29 +14,98 @@ import shutil
 import sys
 import tempfile
 
-from wrong import copy_tree, refusals, replaced
+from wrong import copy_tree, dev, in_short, refusal, replaced
 
-IVC = "crates/input_volume_controller/"
-MONO = "crates/mono_input_volume_controller/"
-ANSWERS = "crates/frame_answers/"
+LEVELS = "crates/levels/specs/"
+GAIN = "crates/gain_map/specs/"
+RING = "crates/clipping_predictor_level_buffer/specs/"
+IVC = "crates/input_volume_controller/specs/"
+RECOMMENDED = "reply = volume (pos (processChannels probability level (c .control) .volume));"
 
-# a name, and for each file the text that is replaced and what replaces it
+# What is wrong, the claim that is false of it, and for each file the text that is replaced and what replaces it. More claims may fall, since a proof may use more than its claim says:
+# the one that is named is false, by a case that the claim covers.
 EDITS = [
-    ("the wait is kept when the rings are emptied", [
-        (IVC + "specs/ControlCalls.antt", "aggregated (withSince 0 (eachChannel (Clipping step) c))", "aggregated (eachChannel (Clipping step) c)")]),
-    ("the minimum is not applied", [
-        (IVC + "specs/ControlCalls.antt", "raisedFor (Volume (suc n)) least volume = max volume least", "raisedFor (Volume (suc n)) least volume = volume")]),
-    ("a frame that does not fit applies its volume", [
-        (IVC + "specs/Frame.antt", "unlessRefused (Number volume) false samples lent c = refusedWith FrameSize c",
-         "unlessRefused (Number volume) false samples lent c = refusedWith FrameSize (withVolumeApplied volume c)")]),
-    ("a recommendation with capture on leaves the volume pending", [
-        (IVC + "specs/Recommendation.antt", "control = withApplied Nothing (processChannels probability level (c .control))", "control = processChannels probability level (c .control)")]),
-    ("the last channel controls", [
-        (IVC + "specs/Channels.antt", "lowerIf false volume channel a = a", "lowerIf false volume channel a = record { volume = a .volume; channel = channel }")]),
-    ("initialise clears the startup", [
-        (MONO + "specs/Mono.antt", "initialized m = counts 0 0 true (flags true true (m .startup)", "initialized m = counts 0 0 true (flags true true false"),
-        (MONO + "src/mono.rt", "        m.ceiling = MAX_INPUT_VOLUME;\n", "        m.ceiling = MAX_INPUT_VOLUME;\n        m.startup = false;\n")]),
+    # ---- document 01, "Shams shut out, and by what"
+    ("all refused", "RefusedCalls", [
+        (IVC + "Calls.antt", "Frame.{analyzeInputAudio}", "Frame.{analyzeInputAudio, refusedWith}"),
+        (IVC + "Calls.antt", "use Rattle.numbers.specs.declared.refusal.Refusal.{Refusal}\n",
+         "use Rattle.numbers.specs.declared.refusal.Refusal.{Refusal}\nuse Rattle.numbers.specs.declared.refusal.Refusal.the-variants.{FrameSize}\n"),
+        (IVC + "Calls.antt", "step c (frame volume samples lent) = analyzeInputAudio volume samples lent c", "step c (frame volume samples lent) = refusedWith FrameSize c")]),
+    ("one fixed volume, of the volume step", "StarredCases", [
+        (GAIN + "VolumeUpdate.antt", "reached true volume = Volume (pos volume)", "reached true volume = Volume (pos 116)")]),
+    # the highest volume is in every bound; so is an echo that is raised to the minimum
+    ("one fixed volume, recommended", "ExampleLines", [
+        (IVC + "Recommendation.antt", RECOMMENDED, "reply = volume (pos 255);")]),
+    ("an echo", "Bounds", [
+        (IVC + "Recommendation.antt", RECOMMENDED, "reply = volume (pos applied);")]),
+    ("an echo, raised to the minimum", "ExampleLines", [
+        (IVC + "Recommendation.antt", "use Prim.Native.Nat.{ℕ}", "use Prim.Native.Nat.{ℕ, max}"),
+        (IVC + "Recommendation.antt", RECOMMENDED, "reply = volume (pos (max applied (c .control .settings .least)));")]),
+    ("works on the first frame and then echoes", "ExampleLines", [
+        (IVC + "Recommendation.antt", "use Prim.Native.Nat.{ℕ}",
+         "use Prim.Native.Nat.{ℕ, max}\nuse mathlib.Core.List.{List, [], _∷_}\n"
+         "use Rattle.mono_input_volume_controller.specs.declared.mono.MonoInputVolumeController.{MonoInputVolumeController}"),
+        (IVC + "Recommendation.antt", "-- \"With capture off .. recommendations repeat it\": the applied volume\n",
+         "abbrev pub atFirst : Bool → ℕ → ℕ → ℕ\natFirst true worked echoed = worked\natFirst false worked echoed = echoed\n\n"
+         "abbrev pub atStartup : List MonoInputVolumeController → Bool\natStartup [] = true\natStartup (m ∷ ms) = m .startup\n\n"),
+        (IVC + "Recommendation.antt", RECOMMENDED,
+         "reply = volume (pos (atFirst (atStartup (c .control .channels)) (processChannels probability level (c .control) .volume) (max applied (c .control .settings .least))));")]),
+    ("none unasked", "NoneExactly", [
+        (IVC + "Recommendation.antt", "unlessNone (Volume applied) probability level c = recommendIf (c .control .used) applied probability level c",
+         "unlessNone (Volume applied) probability level c = record { reply = none; state = c }")]),
+    # a ring counts as full from its first push on, with what its unused places hold: of ten frames, the ninth clipped, nine are no records of those frames
+    ("a made-up stored count", "BrokenLeaves", [
+        (RING + "Ring.antt", "use mathlib.Core.List.{List, [], _∷_}", "use mathlib.Core.List.{List, [], _∷_, _++_}"),
+        (RING + "Ring.antt", "use lib.ListN.{length, getD, take}", "use lib.ListN.{length, getD, take, replicate}"),
+        (RING + "Ring.antt", "push capacity level records = take capacity (level ∷ records)", "push capacity level records = take capacity ((level ∷ records) ++ replicate capacity noLevel)")]),
+    ("a mark on every answer", "MarkedExactly", [
+        (IVC + "Frame.antt", "handled clipped e c = record { reply = mark (e .near);", "handled clipped e c = record { reply = mark true;"),
+        (IVC + "Frame.antt", "reply = mark false; state = record { control = oneFrameMore", "reply = mark true; state = record { control = oneFrameMore"),
+        (IVC + "Frame.antt", "false samples lent c = record { reply = mark false; state = c }", "false samples lent c = record { reply = mark true; state = c }")]),
+    # ---- document 01, "What a hurried port would do"
+    ("halves to even", "StarredCases", [
+        (LEVELS + "Rounding.antt", "use Prim.Native.Nat.{ℕ, zero, suc, _+_, _-_, _*_, _/_, _^_, min}", "use Prim.Native.Nat.{ℕ, zero, suc, _+_, _-_, _*_, _/_, _%_, _^_, min}"),
+        # a half is one less before the division where the whole part is even
+        (LEVELS + "Rounding.antt", "halfUp a c = (2 * a + c) / (2 * c)", "halfUp a c = (2 * a + c - (1 - a / c % 2)) / (2 * c)")]),
+    ("pending cleared with capture off", "NoneExactly", [
+        (IVC + "Recommendation.antt", "state = record { control = aggregated (c .control); predictor = c .predictor } }",
+         "state = record { control = withApplied Nothing (aggregated (c .control)); predictor = c .predictor } }")]),
+    # then no record of before the initialise is left, with capture switched off in the list or not, and `capture-needed` is false
+    ("predictor emptied at initialise", "PartsAreNeeded", [
+        (IVC + "Calls.antt", "use Rattle.clipping_predictor.specs.Predictor.{Predictor}", "use Rattle.clipping_predictor.specs.Predictor.{Predictor, emptied}"),
+        (IVC + "Calls.antt", "state = record { control = initialize (c .control); predictor = c .predictor } }",
+         "state = record { control = initialize (c .control); predictor = emptied (c .predictor) } }")]),
+    # ---- others
+    # then the count never leaves the wait, and with the default wait two frames fewer do
+    ("the wait is kept when the rings are emptied", "TwoFewerAreTooFew", [
+        (IVC + "ControlCalls.antt", "aggregated (withSince 0 (eachChannel (Clipping step) c))", "aggregated (eachChannel (Clipping step) c)")]),
+    ("the minimum is not applied", "Bounds", [
+        (IVC + "ControlCalls.antt", "raisedFor (Volume (suc n)) least volume = max volume least", "raisedFor (Volume (suc n)) least volume = volume")]),
+    ("a frame that does not fit applies its volume", "RefusedCalls", [
+        (IVC + "Frame.antt", "(Number volume) false samples lent c = refusedWith FrameSize c", "(Number volume) false samples lent c = refusedWith FrameSize (withVolumeApplied volume c)")]),
+    ("a recommendation with capture on leaves the volume pending", "NoneExactly", [
+        (IVC + "Recommendation.antt", "control = withApplied Nothing (processChannels probability level (c .control))", "control = processChannels probability level (c .control)")]),
+    ("the last channel controls", "EqualChannels", [
+        (IVC + "Channels.antt", "lowerIf false volume channel a = a", "lowerIf false volume channel a = record { volume = a .volume; channel = channel }")]),
+    ("a volume out of range is cause 9", "RefusedCalls", [
+        ("crates/numbers/specs/Refusal.antt", "numberOf InputVolume = 8", "numberOf InputVolume = 9")]),
+    ("a ring's range is cause 10", "RefusedBelow", [
+        ("crates/numbers/specs/Refusal.antt", "numberOf RingRange = 11", "numberOf RingRange = 10")]),
 ]
+
+
+def rewritten(path, change):
+    """A file's text becomes another."""
+    with open(path) as f:
+        text = change(f.read())
+    with open(path, "w") as f:
+        f.write(text)
+
+
+def below_claims():
+    """The crates that `claims` names in crates.txt."""
+    with open("crates.txt") as f:
+        return next(line for line in f if line.startswith("claims:")).split()[1:]
 
 
 def types_alone(text):
@@ -47,43 +117,114 @@ def types_alone(text):
                 out.pop()
             while lines[i] != "}":
                 i += 1
-        elif not re.match(r"ghost use|use crate::.*::[a-z_]+;", lines[i]):
+        elif not re.match(r"ghost use|use .*::[a-z0-9_]+;", lines[i]):
             out.append(lines[i])
         i += 1
     return "\n".join(out) + "\n"
 
 
-def definitions_alone(crate, laws):
-    """The crate keeps its types, its definitions and these files of laws about them."""
-    for name in os.listdir(crate + "src"):
-        path = crate + "src/" + name
-        with open(path) as f:
-            text = types_alone(f.read())
-        with open(path, "w") as f:
-            f.write(text)
-    for name in os.listdir(crate + "proofs"):
-        path = crate + "proofs/" + name
-        if os.path.isdir(path):
-            shutil.rmtree(path)
-        elif name.removesuffix(".antt") not in laws:
-            os.remove(path)
-    with open(crate + "proofs/Lib.antt", "w") as f:
-        f.writelines(f"pub mod {law}\n" for law in laws)
+LAW = r"Rattle·(\w+)\.proofs\.(\w+)|Rattle·(\w+)·proofs\.proofs\.(\w+)"
+
+
+def laws_in(text):
+    """The (crate, module) of each file of laws that a text names, of crates other than `claims`."""
+    named = ((crate or own, module or law) for crate, module, own, law in re.findall(LAW, text))
+    return [law for law in named if law[0] != "claims"]
+
+
+def beside(law):
+    """The name of a file of laws among the claims' proofs."""
+    return "".join(word.capitalize() for word in law[0].split("_")) + law[1]
+
+
+def beside_claims(text):
+    """A text of a crate below, as it reads among the claims' proofs."""
+    def name(m):
+        law = m[1] or m[3], m[2] or m[4]
+        return m[0] if law[0] == "claims" else "Rattle.claims.proofs." + beside(law)
+    return re.sub(r"Rattle·(?!claims)(\w+)·specs\.specs\.", r"Rattle·\1.specs.", re.sub(LAW, name, text))
+
+
+def definitions_alone():
+    """The crates below keep their types and definitions; the laws that the claims rest on, and the laws that those rest on, move to the claims."""
+    proofs = "crates/claims/proofs/"
+    laws, named = set(), []
+    for name in os.listdir(proofs):
+        with open(proofs + name) as f:
+            named += laws_in(f.read())
+        rewritten(proofs + name, beside_claims)
+    while named:
+        law = named.pop()
+        if law not in laws:
+            laws.add(law)
+            with open(f"crates/{law[0]}/proofs/{law[1]}.antt") as f:
+                text = f.read()
+            named += laws_in(text)
+            with open(f"{proofs}{beside(law)}.antt", "w") as f:
+                f.write(beside_claims(text))
+    rewritten(proofs + "Lib.antt", lambda text: text + "".join(f"pub mod {beside(law)}\n" for law in sorted(laws)))
+    for crate in below_claims():
+        shutil.rmtree(f"crates/{crate}/proofs", ignore_errors=True)
+        for name in os.listdir(f"crates/{crate}/src"):
+            rewritten(f"crates/{crate}/src/{name}", types_alone)
+
+
+def each_by_itself():
+    """The claims on the page, each now also a declaration `its-NAME` of proofs/Claims.antt; and for each the file that proves it."""
+    with open("crates/claims/specs/Claims.antt") as f:
+        page = f.read()
+    with open("crates/claims/proofs/Claims.antt") as f:
+        text = f.read()
+    fields = re.findall(r"^  pub (\S+) : (\w+)$", page, re.M)
+    terms = dict(re.findall(r"^  (\S+) = (.*);$", text, re.M))
+    modules = {name: module for module, names in re.findall(r"proofs\.proofs\.(\w+)\.\{(.*?)\}", text, re.S) for name in re.split(r"[,\s]+", names)}
+    uses = "\n".join(line for line in page.split("\n") if line.startswith("use "))
+    with open("crates/claims/proofs/Claims.antt", "w") as f:
+        f.write(text.replace("\npub claims :", uses + "\n\npub claims :"))
+        f.writelines(f"\npub its-{claim} : {claim}\nits-{claim} = {terms[field]}\n" for field, claim in fields)
+    return {claim: modules[terms[field]] for field, claim in fields}
+
+
+def fallen(out, claims):
+    """The claims whose declaration the prover did not take."""
+    said = set(re.findall(r"proofs/Claims\.antt:\S+ error: `its-(\w+)`", out))
+    return [claim for claim in claims if claim in said]
+
+
+def rests_on(module):
+    """The files of laws that a file rests on, itself first, then by how far below it they stand."""
+    files = [module]
+    for file in files:
+        with open(f"crates/claims/proofs/{file}.antt") as f:
+            files += [law for law in dict.fromkeys(re.findall(r"Rattle\.claims\.proofs\.(\w+)", f.read())) if law not in files]
+    return [f"claims/proofs/{file}.antt" for file in files]
+
+
+def verdict(out, claim, claims):
+    """Whether a wrong definition breaks its claim at a fact that the claim's proof rests on, and in what words."""
+    _, facts, others = refusal(out)
+    broken = fallen(out, claims)
+    below = rests_on(claims[claim]) if claim in broken else []
+    facts = sorted((fact for fact in facts if fact[0] in below), key=lambda fact: below.index(fact[0]))
+    if not facts:
+        return False, f"DOES NOT BREAK {claim} AT A FACT; proofs that fall: {', '.join(broken) or 'none'}; {in_short(others[0]) if others else ''}"
+    return True, f"breaks {claim}, {in_short(facts[0])} ({len(broken)} of {len(claims)} proofs fall: {', '.join(broken)})"
 
 
 def main():
     copy_tree(sys.argv[1] if len(sys.argv) > 1 else tempfile.mkdtemp())
-    definitions_alone(IVC, ["Clipped", "Ratios"])
-    definitions_alone(ANSWERS, [])
-    proved, wrong = refusals("claims", "crates/claims/")
-    if not proved:
-        sys.exit("the copy itself is not proved:\n" + "\n".join(wrong))
+    definitions_alone()
+    claims = each_by_itself()
+    out = dev("claims")
+    if not refusal(out)[0]:
+        sys.exit("the copy itself is not proved:\n" + out)
     survived = 0
-    for name, changes in EDITS:
+    for name, claim, changes in EDITS:
         with replaced(changes):
-            _, wrong = refusals("claims", "crates/claims/")
-        print(f"{name}: {'breaks ' + wrong[0] if wrong else 'BREAKS NO CLAIM'}", flush=True)
-        survived += not wrong
+            broken, words = verdict(dev("claims"), claim, claims)
+        print(f"{name}: {words}", flush=True)
+        survived += not broken
+    print(f"{len(EDITS)} wrong definitions, {len(EDITS) - survived} break their claim")
     sys.exit(survived != 0)
 
 

@@ -30,8 +30,16 @@ static void sizes_are_those_the_archive_states(void) {
     CHECK(l.record_size == sizeof(agc2_record));
 }
 
-/* A large result is written through a pointer that is passed first. Called with that pointer in sight, a function shows how far it writes:
- * the last byte that is the same whatever stood there before. */
+/* What lies below the stack's end is filled, so that a byte which a call copies from there unwritten is seen. */
+__attribute__((noinline)) static void fill_stack(int with) {
+    volatile unsigned char below[32768];
+    for (size_t i = 0; i < sizeof below; i++) {
+        below[i] = (unsigned char)with;
+    }
+}
+
+/* A large result is written through a pointer that is passed first. Called with that pointer in sight, a function shows what it writes:
+ * every byte up to an end, each the same whatever stood there and on the stack before, and none from there on. */
 typedef void *(*creates)(void *result, int32_t num_capture_channels, agc2_config config);
 typedef void *(*initializes)(void *result, agc2_control_state control);
 
@@ -39,9 +47,12 @@ static _Alignas(8) unsigned char zeros[8192], ones[8192];
 
 static size_t written(void) {
     size_t end = 0;
-    for (size_t i = 0; i < sizeof zeros; i++) {
-        if (zeros[i] == ones[i]) {
-            end = i + 1;
+    while (end < sizeof zeros && zeros[end] == ones[end]) {
+        end++;
+    }
+    for (size_t i = end; i < sizeof zeros; i++) {
+        if (zeros[i] != 0 || ones[i] != 255) {
+            return 0;
         }
     }
     return end;
@@ -59,29 +70,118 @@ static void sizes_are_those_the_archive_writes(void) {
 
     creates create = (creates)(void (*)(void))agc2_new_by_value;
     before_writing();
+    fill_stack(0);
     create(zeros, 1, agc2_default_config());
+    fill_stack(255);
     create(ones, 1, agc2_default_config());
     CHECK(written() == sizeof(agc2_controller));
 
     before_writing();
     memcpy(zeros, &c, sizeof c);
     memcpy(ones, &c, sizeof c);
+    fill_stack(0);
     agc2_analyze_input_audio_into((agc2_controller *)(void *)zeros, 100, 1, frame, 8);
+    fill_stack(255);
     agc2_analyze_input_audio_into((agc2_controller *)(void *)ones, 100, 1, frame, 8);
     CHECK(written() == sizeof(agc2_controller));
 
     initializes initialize = (initializes)(void (*)(void))agc2_initialize_by_value;
     before_writing();
+    fill_stack(0);
     initialize(zeros, c.control.state);
+    fill_stack(255);
     initialize(ones, c.control.state);
     CHECK(written() == sizeof(agc2_control_state));
 
     before_writing();
     memcpy(zeros, &c.control, sizeof c.control);
     memcpy(ones, &c.control, sizeof c.control);
+    fill_stack(0);
     agc2_recommend_input_volume_into((agc2_control *)(void *)zeros, 0.5f, 0, 0.0f);
+    fill_stack(255);
     agc2_recommend_input_volume_into((agc2_control *)(void *)ones, 0.5f, 0, 0.0f);
     CHECK(written() == sizeof(agc2_control));
+}
+
+/* ---- every byte */
+
+static uint32_t below(uint32_t *seed, uint32_t limit) {
+    *seed = *seed * 1664525u + 1013904223u;
+    return (*seed >> 8) % limit;
+}
+
+/* One call of many kinds, the same for equal seeds. Its answer. */
+static uint32_t any_call(agc2_controller *c, int32_t channels, uint32_t seed) {
+    static float frame[8 * 480];
+    static const float loudest[4] = {100.0f, 3000.0f, 30000.0f, 40000.0f};
+    size_t samples = 1 + below(&seed, 480), count = (size_t)channels * samples;
+    float loud = loudest[below(&seed, 4)];
+    int32_t volume = -1;
+    for (size_t i = 0; i < count; i++) {
+        frame[i] = loud * ((float)below(&seed, 2001) / 1000.0f - 1.0f);
+    }
+    switch (below(&seed, 16)) {
+    case 0:
+        return agc2_analyze_input_audio(c, below(&seed, 2) ? -1 : 256, samples, frame, count);
+    case 1:
+        return agc2_analyze_input_audio(c, 100, samples, frame, count - 1);
+    case 2:
+        agc2_initialize(c);
+        return 0;
+    case 3:
+        agc2_handle_capture_output_used_change(c, below(&seed, 4));
+        return 0;
+    case 4:
+    case 5:
+    case 6:
+    case 7:
+    case 8:
+        loud = (float)below(&seed, 90) - 90.0f;
+        return agc2_recommend_input_volume(c, 0.8f, below(&seed, 4) ? &loud : NULL, &volume);
+    default:
+        return agc2_analyze_input_audio(c, (int32_t)below(&seed, 256), samples, frame, count);
+    }
+}
+
+/* A refused frame changes no byte of the state. The four words in front of it are its answer, 8 or 9 and not near, and no volume, since no recommendation came after it. */
+static void refused_frame_keeps_the_state(const agc2_controller *before, const agc2_controller *after) {
+    CHECK(memcmp(&before->control.state, &after->control.state, sizeof before->control.state) == 0);
+    CHECK(memcmp(&before->predictor, &after->predictor, sizeof before->predictor) == 0);
+    CHECK((after->refusal == AGC2_INPUT_VOLUME || after->refusal == AGC2_FRAME_SIZE) && after->near == 0);
+    CHECK(after->control.present == 0 && after->control.volume == 0);
+}
+
+/* Two controllers with one history, whatever stood in their memory and on the stack: equal in all bytes after every call. */
+static void equal_histories_have_equal_bytes(void) {
+    static agc2_controller one, other, before;
+    int refused = 0;
+    for (int32_t channels = 1; channels <= 8; channels++) {
+        agc2_config d = agc2_default_config();
+        d.clipped_wait_frames = channels * 3;
+        d.update_input_volume_wait_frames = channels;
+        d.enable_clipping_predictor = channels % 4 != 0;
+        memset(&one, 0, sizeof one);
+        memset(&other, 255, sizeof other);
+        fill_stack(0x55);
+        CHECK(agc2_new(&one, channels, d) == 0);
+        fill_stack(0xaa);
+        CHECK(agc2_new(&other, channels, d) == 0);
+        CHECK(memcmp(&one, &other, sizeof one) == 0);
+        for (uint32_t k = 0; k < 1000; k++) {
+            uint32_t seed = k * 8 + (uint32_t)channels;
+            memcpy(&before, &one, sizeof one);
+            fill_stack(0x33);
+            uint32_t answer = any_call(&one, channels, seed);
+            fill_stack(0xcc);
+            CHECK(any_call(&other, channels, seed) == answer);
+            CHECK(memcmp(&one, &other, sizeof one) == 0);
+            if (answer == AGC2_INPUT_VOLUME || answer == AGC2_FRAME_SIZE) {
+                refused_frame_keeps_the_state(&before, &one);
+                refused++;
+            }
+        }
+    }
+    CHECK(refused > 100);
 }
 
 /* ---- the calls */
@@ -207,6 +307,7 @@ static void speech(void) {
 int main(void) {
     sizes_are_those_the_archive_states();
     sizes_are_those_the_archive_writes();
+    equal_histories_have_equal_bytes();
     default_settings();
     the_example();
     refusals();

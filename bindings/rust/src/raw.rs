@@ -4,7 +4,7 @@
 #[repr(C)]
 #[derive(Clone, Copy)]
 pub struct ControlState {
-    words: [u64; 40],
+    words: [u64; 39],
 }
 
 /// The predictor with its rings. Its words belong to the library.

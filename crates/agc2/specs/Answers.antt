@@ -1,17 +1,18 @@
 -- Document 01's answers in numbers: 0 or the refusal's number, with the values beside it, and 0 where there is none. Definitions only.
 use Prim.Native.Nat.{ℕ, zero, suc}
+use mathlib.Core.Option as Option
+use mathlib.Core.Option.{Option, some}
 use lib.IntN.{ℤ, pos}
 use lib.Ieee.{Float, binary32, ofBits}
+use Rattle.numbers.specs.Flag.{flagOf}
 use Rattle.numbers.specs.Said.{Said, accepted, refused}
-use Rattle.clipping_predictor_level_buffer.specs.declared.Stored.{Stored}
-use Rattle.clipping_predictor_level_buffer.specs.declared.Stored.the-variants.{Record, Missing}
+use Rattle.clipping_predictor_level_buffer.specs.declared.level.Level.{Level}
 use Rattle.mono_input_volume_controller.specs.declared.speech_level.SpeechLevel.{SpeechLevel}
 use Rattle.mono_input_volume_controller.specs.declared.speech_level.SpeechLevel.the-variants.{Absent, Dbfs}
 use Rattle.input_volume_controller.specs.Reply.{Reply, mark, refusal, volume, none, done}
 use Rattle.agc2.specs.declared.answers.Agc2Record.{Agc2Record}
 use Rattle.agc2.specs.declared.answers.FrameNumbers.{FrameNumbers}
 use Rattle.agc2.specs.declared.answers.VolumeNumbers.{VolumeNumbers}
-use Rattle.agc2.specs.Flag.{flagOf}
 
 abbrev pub outcomeNumber : Said (Unit {0}) → ℕ
 outcomeNumber (accepted values) = 0
@@ -33,9 +34,10 @@ volumeNumbers (volume v) = record { present = 1; volume = v }
 volumeNumbers none = record { present = 0; volume = pos 0 }
 volumeNumbers done = record { present = 0; volume = pos 0 }
 
-abbrev pub recordOf : Stored → Agc2Record
-recordOf (Record l) = record { present = 1; average = l .average; max = l .max }
-recordOf Missing = record { present = 0; average = ofBits binary32 0; max = ofBits binary32 0 }
+-- a stored record or none
+abbrev pub recordOf : Option Level → Agc2Record
+recordOf (some l) = record { present = 1; average = l .average; max = l .max }
+recordOf Option.none = record { present = 0; average = ofBits binary32 0; max = ofBits binary32 0 }
 
 -- "the speech level is either absent or a float": absent at 0
 unfoldable pub speechLevelOf : ℕ → Float → SpeechLevel

@@ -3,11 +3,11 @@ use Rattle.agc2.specs.declared.layout.Agc2Layout.{Agc2Layout}
 
 abbrev pub layout : Agc2Layout
 layout = record {
-  «control_size» = 328;
+  «control_size» = 320;
   «control_state» = 8;
-  «controller_size» = 4672;
+  «controller_size» = 4664;
   «controller_control» = 8;
-  «controller_predictor» = 336;
+  «controller_predictor» = 328;
   «config_size» = 44;
   «record_size» = 12;
 }

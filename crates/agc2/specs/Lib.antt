@@ -1,5 +1,4 @@
 -- The definitions that the contracts of `agc2` cite.
-pub mod Flag
 pub mod Settings
 pub mod Answers
 pub mod Whole

@@ -1,7 +1,7 @@
 -- The settings as C has them, any bits, and as the controller has them. Definitions only.
+use Rattle.numbers.specs.Flag.{isSet, flagOf}
 use Rattle.mono_input_volume_controller.specs.declared.config.Config.{Config}
 use Rattle.agc2.specs.declared.settings.Agc2Config.{Agc2Config}
-use Rattle.agc2.specs.Flag.{isSet, flagOf}
 
 abbrev pub configOf : Agc2Config → Config
 configOf c = record {

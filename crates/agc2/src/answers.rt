@@ -2,14 +2,15 @@
 ghost use mathlib.Core.Path.{_≡_};
 ghost use Rattle.input_volume_controller.specs.Reply.{analysisSays, recommendationSays};
 ghost use Rattle.numbers.specs.Said.{outcomeSays};
+ghost use Rattle.clipping_predictor_level_buffer.specs.Ring.{storedSays};
 ghost use Rattle.agc2.specs.Answers.{outcomeNumber, frameNumbers, volumeNumbers, recordOf, speechLevelOf};
-use crate::flag::flag_of;
 use clipping_predictor_level_buffer::Stored;
 use input_volume_controller::Analysis;
 use input_volume_controller::Recommendation;
 use input_volume_controller::plain::PlainControl;
 use input_volume_controller::plain::PlainPredictor;
 use mono_input_volume_controller::speech_level::SpeechLevel;
+use numbers::flag::flag_of;
 use numbers::refusal::Outcome;
 
 // All of a controller but its predictor, with the answer to its last recommendation: 1 and the volume, or 0 and 0 for none.
@@ -86,7 +87,7 @@ pub fn volume_numbers(answer: Recommendation) -> VolumeNumbers
 }
 
 pub fn record_of(stored: Stored) -> Agc2Record
-    ensures { λ r. ⌜ r ≡ recordOf stored ⌝ }
+    ensures { λ r. ⌜ r ≡ recordOf (storedSays stored) ⌝ }
 {
     match stored {
         Stored::Record(level) => Agc2Record {

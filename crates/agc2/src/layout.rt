@@ -19,11 +19,11 @@ pub extern "C" fn agc2_layout() -> Agc2Layout
     ensures { λ r. ⌜ r ≡ layout ⌝ }
 {
     Agc2Layout {
-        control_size: 328,
+        control_size: 320,
         control_state: 8,
-        controller_size: 4672,
+        controller_size: 4664,
         controller_control: 8,
-        controller_predictor: 336,
+        controller_predictor: 328,
         config_size: 44,
         record_size: 12,
     }

@@ -4,14 +4,14 @@ ghost use mathlib.Core.Path.{_≡_};
 ghost use mathlib.Core.List.{[]};
 ghost use lib.IntN.{pos};
 ghost use lib.ListN.{getD};
-ghost use Rattle.clipping_predictor_level_buffer.specs.Ring.{storedAt};
+ghost use Rattle.numbers.specs.Flag.{isSet};
+ghost use Rattle.clipping_predictor_level_buffer.specs.Ring.{storedSays, storedAt};
 ghost use Rattle.input_volume_controller.specs.Controller.{Good, viewOf};
 ghost use Rattle.input_volume_controller.specs.Control.{controlOf};
 ghost use Rattle.input_volume_controller.specs.Control.{Good as GoodControl};
 ghost use Rattle.input_volume_controller.specs.Plain.{wholeControl};
 ghost use Rattle.input_volume_controller.specs.Reply.{done};
 ghost use Rattle.input_volume_controller.specs.Calls.{initialise, captureSwitch, ControlDoes};
-ghost use Rattle.agc2.specs.Flag.{isSet};
 ghost use Rattle.agc2.specs.Settings.{configOf};
 ghost use Rattle.agc2.specs.Answers.{recordOf, speechLevelOf};
 ghost use Rattle.agc2.specs.Whole.{wholeOf, besideOf};
@@ -28,7 +28,6 @@ use input_volume_controller::plain::whole_control;
 use input_volume_controller::plain::whole_predictor;
 
 pub mod answers;
-pub mod flag;
 pub mod layout;
 pub mod settings;
 
@@ -91,7 +90,7 @@ pub extern "C" fn agc2_handle_capture_output_used_change_by_value(
     requires { ⌜ GoodControl (wholeControl control) ⌝ }
     ensures { λ r. ⌜ ControlDoes (wholeControl control) (captureSwitch (isSet «capture_output_used»)) done (wholeControl r) ⌝ }
 {
-    let on = flag::is_set(capture_output_used);
+    let on = numbers::flag::is_set(capture_output_used);
     plain_control(whole_control(control).handle_capture_output_used_change(on))
 }
 
@@ -190,7 +189,7 @@ pub extern "C" fn agc2_stored_record_by_value(
     i: usize,
 ) -> Agc2Record
     requires { ⌜ Good (wholeOf controller) ⌝ }
-    ensures { λ r. ⌜ r ≡ recordOf (storedAt (getD (viewOf (wholeOf controller) .predictor .rings) channel []) i) ⌝ }
+    ensures { λ r. ⌜ r ≡ recordOf (storedSays (storedAt (getD (viewOf (wholeOf controller) .predictor .rings) channel []) i)) ⌝ }
 {
     answers::record_of(whole(controller).stored_record(channel, i))
 }

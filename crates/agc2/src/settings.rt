@@ -2,9 +2,9 @@
 ghost use mathlib.Core.Path.{_≡_};
 ghost use Rattle.mono_input_volume_controller.specs.Config.{defaults};
 ghost use Rattle.agc2.specs.Settings.{configOf, inNumbers};
-use crate::flag::flag_of;
-use crate::flag::is_set;
 use mono_input_volume_controller::config::Config;
+use numbers::flag::flag_of;
+use numbers::flag::is_set;
 
 // Any bits. The predictor is on unless its number is 0.
 #[repr(C)]

@@ -15,7 +15,7 @@ use Rattle.mono_input_volume_controller.specs.MonoState.{maxInputVolume}
 use Rattle.input_volume_controller.specs.ControlCalls.{withAppliedInputVolume}
 use Rattle.input_volume_controller.specs.Controller.{Controller}
 use Rattle.input_volume_controller.specs.Frame.{unlessWaiting, ifUsed, unlessRefused, analyzeInputAudio}
-use Rattle.claims.specs.LeadIn.{isNumber, accepts}
+use Rattle.claims.specs.Past.{isNumber, isAccepted}
 use Rattle.claims.specs.Sharp.{isRefusal, AcceptedIsNotRefused}
 
 marked-waiting : (t clipped : Bool) (c : Controller) → isRefusal (unlessWaiting t clipped c .reply) ≡ false
@@ -37,5 +37,5 @@ refused-if (Number volume) true samples lent c = marked-used (c .control .used) 
 
 -- THE CLAIM
 pub accepted-is-not-refused : AcceptedIsNotRefused
-unfolding accepts analyzeInputAudio
+unfolding isAccepted analyzeInputAudio
 accepted-is-not-refused c volume samples lent = refused-if (withinOf 0 maxInputVolume volume) (frameFits (length (c .control .channels)) samples lent) samples lent c

@@ -281,8 +281,8 @@ around-near k p n c some r w =
     ])
 
 -- what is the level of a float, within k, is close to the exact one
-pub close-is : (k p : ℕ) (v : Float) (r : Decibels) → IsLevel k p v r → Close k r (E.levelOf p v)
-unfolding E.levelOf Close
+pub close-is : (k p : ℕ) (v : Float) (r : Decibels) → IsLevel k p v r → Close k r (E.exactLevel p v)
+unfolding E.exactLevel Close
 close-is k p nan r w = subst (λ (r : Decibels). Close k r notANumber) (sym w) refl
 close-is k p (inf true) r w = subst (λ (r : Decibels). Close k r (ratio 1 1)) (sym w) (around-one k 1 (zero-lt-suc 0) (ratio 1 1) refl)
 close-is k p (inf false) r w = subst (λ (r : Decibels). Close k r plusInfinity) (sym w) refl
@@ -290,5 +290,5 @@ close-is k p (fin true m e) r w = subst (λ (r : Decibels). Close k r (ratio 1 1
 close-is k p (fin false m e) r w = around-near k p (m * up e) (down e) (down-pos e) r w
 
 -- every f32's is, for each tolerance from 1
-pub close-level : (k p : ℕ) (v : Float) → 1 ≤ k → p ≤ 20000 → T (fits binary32 v) → Close k (L.levelOf p v) (E.levelOf p v)
+pub close-level : (k p : ℕ) (v : Float) → 1 ≤ k → p ≤ 20000 → T (fits binary32 v) → Close k (L.levelOf p v) (E.exactLevel p v)
 close-level k p v hk hp held = close-is k p v (L.levelOf p v) (level-right k p v hk hp held)

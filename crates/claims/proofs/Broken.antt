@@ -21,10 +21,8 @@ use Rattle.clipping_predictor.specs.AllRings.{predictedBy}
 use Rattle.input_volume_controller.specs.Frame.{askedOf, handleIf, unlessWaiting, ifUsed, unlessRefused, analyzeInputAudio}
 use Rattle.input_volume_controller.specs.Recommendation.{recommendIf, unlessNone, recommendInputVolume}
 use Rattle.input_volume_controller.specs.Calls.{Call, frame, recommendation, initialise, captureSwitch, step, after}
-use Rattle.claims.specs.Causes.{firstOf, frameCauses}
-use Rattle.claims.specs.Past.{captureOn, noCause}
+use Rattle.claims.specs.Past.{captureOn, isNumber, isAccepted}
 use Rattle.claims.specs.Broken.{Frame, withIf, acceptedFrames, BrokenLeaves}
-use Rattle.claims.proofs.Causes.{isOutside, eightNine, frame-causes}
 use Rattle.claims.proofs.Capture.{Open, open-next}
 use Rattle.claims.proofs.Newest.{from-newest}
 use Rattle.claims.proofs.Stored.{Stored, stored-first, stored-emptied, stored-entered, stored-alone}
@@ -51,7 +49,7 @@ module _ (start : Predictor) (frames : List Frame) (samples : ℕ) (lent : List 
   if-used false c h = h
 
   unless-refused : (v : Natural) (fits : Bool) (c : Controller) → Stored start frames (c .predictor)
-      → Stored start (withIf (noCause (firstOf (eightNine (isOutside v) (not fits))) && c .control .used) (record { samples = samples; lent = lent }) frames) (unlessRefused v fits samples lent c .state .predictor)
+      → Stored start (withIf ((isNumber v && fits) && c .control .used) (record { samples = samples; lent = lent }) frames) (unlessRefused v fits samples lent c .state .predictor)
   unless-refused Outside fits c h = h
   unless-refused (Number n) false c h = h
   unless-refused (Number n) true c h = if-used (c .control .used) (record { control = withAppliedInputVolume n (c .control); predictor = c .predictor }) h
@@ -75,11 +73,11 @@ record Since (start : Controller) (past : List Call) (c : Controller) : Type 0 w
 
 module _ (start : Controller) where
   stored-next : (call : Call) (past : List Call) (c : Controller) → Since start past c → Stored (start .predictor) (acceptedFrames (length (start .control .channels)) (start .control .used) (call ∷ past)) (step c call .state .predictor)
-  unfolding acceptedFrames analyzeInputAudio recommendInputVolume
+  unfolding acceptedFrames isAccepted analyzeInputAudio recommendInputVolume
   stored-next (frame v samples lent) past c h =
       let frames = acceptedFrames (length (start .control .channels)) (start .control .used) past in
       subst (λ (t : Bool). Stored (start .predictor) (withIf t (record { samples = samples; lent = lent }) frames) (step c (frame v samples lent) .state .predictor))
-      (λ i. noCause (firstOf ((sym (frame-causes (length (c .control .channels)) v samples lent) ∙ ap (λ (n : ℕ). frameCauses n v samples lent) (h .capture .channels)) i)) && h .capture .used i)
+      (λ i. (isNumber (withinOf 0 maxInputVolume v) && frameFits (h .capture .channels i) samples lent) && h .capture .used i)
       (unless-refused (start .predictor) frames samples lent (withinOf 0 maxInputVolume v) (frameFits (length (c .control .channels)) samples lent) c (h .stored))
   stored-next (recommendation probability level) past c h = subst (Stored (start .predictor) _) (sym (recommendation-same (c .control .applied) probability level c)) (h .stored)
   stored-next initialise past c h = h .stored

@@ -27,7 +27,8 @@ use Rattle.input_volume_controller.specs.Controller.{Controller}
 use Rattle.input_volume_controller.specs.Frame.{unlessRefused, analyzeInputAudio}
 use Rattle.input_volume_controller.specs.Recommendation.{recommendIf, unlessNone, recommendInputVolume}
 use Rattle.input_volume_controller.specs.Calls.{Call, frame, recommendation, initialise, captureSwitch, step, after}
-use Rattle.claims.specs.LeadIn.{all, isNumber, accepts, acceptedBy, acceptedIn, isLow, quietFor, isCalm}
+use Rattle.claims.specs.Past.{isNumber, isAccepted}
+use Rattle.claims.specs.LeadIn.{all, acceptedBy, acceptedIn, isLow, quietFor, isCalm}
 use Rattle.claims.specs.TwoPasts.{enoughFor}
 use Rattle.claims.proofs.Lists.{and-l, and-r, is-true}
 use Rattle.claims.proofs.Kept.{Kept, count-of, kept-step}
@@ -42,8 +43,8 @@ growIf true levels grown = grow levels grown
 growIf false levels grown = grown
 
 unfoldable pub grownBy : ℕ → Call → List (List Level) → List (List Level)
-unfolding accepts
-grownBy n (frame volume samples lent) grown = growIf (accepts n volume samples lent) (levelsOf n samples lent) grown
+unfolding isAccepted
+grownBy n (frame volume samples lent) grown = growIf (isAccepted n volume samples lent) (levelsOf n samples lent) grown
 grownBy n (recommendation probability level) grown = grown
 grownBy n initialise grown = grown
 grownBy n (captureSwitch on) grown = grown
@@ -90,7 +91,7 @@ module _ (p : Predictor.Settings) (s : Settings) (n : ℕ) where
 
     led-step : (call : Call) (grown : List (List Level)) (k : ℕ) (c : Controller) → Kept p s n c → T (isCalm n (quietFor p n) call) → L grown k c
         → L (grownBy n call grown) (acceptedBy n call + k) (step c call .state)
-    unfolding grownBy acceptedBy isCalm accepts analyzeInputAudio recommendInputVolume
+    unfolding grownBy acceptedBy isCalm isAccepted analyzeInputAudio recommendInputVolume
     led-step (frame volume samples lent) grown k c b t h =
         subst (λ (x : ℕ). L (grownBy n (frame volume samples lent) grown) (acceptedBy n (frame volume samples lent) + k) (unlessRefused (withinOf 0 maxInputVolume volume) (frameFits x samples lent) samples lent c .state))
         (sym (count-of s n (c .control) (b .control))) (led-heard (withinOf 0 maxInputVolume volume) (frameFits n samples lent) samples lent grown k c b t h)

@@ -17,7 +17,8 @@ use Rattle.mono_input_volume_controller.specs.declared.mono.MonoInputVolumeCont
 use Rattle.mono_input_volume_controller.specs.declared.speech_level.SpeechLevel.{SpeechLevel}
 use Rattle.input_volume_controller.specs.declared.Applied.the-variants.{Nothing, Volume}
 use Rattle.mono_input_volume_controller.specs.SpeechLevel.{rmsErrorOf}
-use Rattle.input_volume_controller.specs.Channels.{freshChannel, aggregateOf}
+use Rattle.mono_input_volume_controller.specs.Mono.{created}
+use Rattle.input_volume_controller.specs.Channels.{aggregateOf}
 use Rattle.input_volume_controller.specs.ControlCalls.{raisedFor, aggregated, withAppliedInputVolume, initialize, processChannels}
 use Rattle.input_volume_controller.specs.Controller.{Controller}
 use Rattle.input_volume_controller.specs.Recommendation.{recommendIf}
@@ -76,7 +77,7 @@ module _ (p : Predictor.Settings) (s : Settings) (n : ℕ) (good : Good p) (rati
   -- the state that the lead-in leads to, by the records that its list gave
   pub canon : List (List Level) → Controller
   canon grown =
-      final (l .volume) (l .samples) (l .lent) (l .probability) (l .level) s (replicate n (core (freshChannel s))) (s .«clipped_wait»)
+      final (l .volume) (l .samples) (l .lent) (l .probability) (l .level) s (replicate n (core (created s))) (s .«clipped_wait»)
       (record { settings = p; rings = map (take (capacityOf p)) (grow (levelsOf n (l .samples) (l .lent)) grown) })
 
   module _ (grown : List (List Level)) (k : ℕ) (c : Controller) (b : Kept p s n c) (h : Led p s grown k c) (e : enoughFor p s - 1 ≤ k) where

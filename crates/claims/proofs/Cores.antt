@@ -14,7 +14,7 @@ use Rattle.input_volume_controller.specs.declared.channels.ChannelCall.{Channel
 use Rattle.input_volume_controller.specs.declared.channels.ChannelCall.the-variants.{Initialize, CaptureOutputUsed, StreamAnalogLevel, Clipping, Process}
 use Rattle.mono_input_volume_controller.specs.MonoState.{maxInputVolume, volumes, flags, counts}
 use Rattle.mono_input_volume_controller.specs.Mono.{handledCaptureOutputUsedChange, isUsers, unlessSame, unlessUsers, unlessMuted, withInputVolume, lowered, lowerCeiling, unlessAtFloor, handledClipping}
-use Rattle.mono_input_volume_controller.specs.MonoProcess.{staysMuted, unlessStaysMuted, checkedVolumeAndReset, heldError, isZero, unlessZero, updatedInputVolume, ifPending, settled, speechFrames, mayAct, corrected, waited, unlessWaited, counted, processed}
+use Rattle.mono_input_volume_controller.specs.MonoProcess.{staysMuted, unlessStaysMuted, checkedVolumeAndReset, heldError, isZero, unlessZero, updatedInputVolume, ifCheck, settled, speechFrames, mayAct, corrected, waited, unlessWaited, counted, processed}
 use Rattle.input_volume_controller.specs.Channels.{called, eachCalled}
 use Rattle.claims.proofs.Lists.{map-same}
 
@@ -65,13 +65,13 @@ module _ (m : MonoInputVolumeController) where
   core-waited true error = core-corrected error
   core-waited false error = refl
 
-if-pending : (t : Bool) (m : MonoInputVolumeController) → core (ifPending t m) ≡ core m
-if-pending true m = core-checked (flags (m .used) false (m .startup) m)
-if-pending false m = refl
+if-check : (t : Bool) (m : MonoInputVolumeController) → core (ifCheck t m) ≡ core m
+if-check true m = core-checked (flags (m .used) false (m .startup) m)
+if-check false m = refl
 
 core-settled : (m : MonoInputVolumeController) → core (settled m) ≡ core m
 unfolding settled
-core-settled m = if-pending (m .pending) m
+core-settled m = if-check (m .check) m
 
 unless-waited : (t : Bool) (error : RmsError) (speech : ℕ) (m : MonoInputVolumeController) → core (unlessWaited t error speech m) ≡ core m
 unless-waited true error speech m = refl

@@ -14,7 +14,8 @@ use Rattle.input_volume_controller.specs.declared.channels.ChannelCall.the-vari
 use Rattle.mono_input_volume_controller.specs.declared.speech_level.RmsError.{RmsError}
 use Rattle.mono_input_volume_controller.specs.SpeechLevel.{rmsErrorOf}
 use Rattle.mono_input_volume_controller.specs.MonoState.{maxInputVolume}
-use Rattle.input_volume_controller.specs.Channels.{called, eachCalled, freshChannel, lowerOf, aggregateFrom, aggregateOf}
+use Rattle.mono_input_volume_controller.specs.Mono.{created}
+use Rattle.input_volume_controller.specs.Channels.{called, eachCalled, lowerOf, aggregateFrom, aggregateOf}
 use Rattle.input_volume_controller.specs.Control.{Control}
 use Rattle.input_volume_controller.specs.ControlCalls.{aggregated, withAppliedInputVolume, initialize, lowerChannels, processChannels}
 use Rattle.input_volume_controller.specs.Controller.{freshWith}
@@ -107,5 +108,5 @@ any-state = record { initial = λ m q. q; switched = λ on m q. q; applied = λ 
 pub equal-channels : EqualChannels
 equal-channels predictor s count calls =
     let a = after-keeps (Alike (λ m. Unit {0}) count) (alike-kept (λ m. Unit {0}) count any-state) calls (freshWith predictor s count)
-    (record { one = record { state = freshChannel s; holds = tt; equal = refl }; first = refl }) in
+    (record { one = record { state = created s; holds = tt; equal = refl }; first = refl }) in
     record { state = a .one .state; equal = a .one .equal; first = a .first }

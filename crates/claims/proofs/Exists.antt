@@ -16,7 +16,8 @@ use Rattle.clipping_predictor.specs.Predictor.{frameFits}
 use Rattle.mono_input_volume_controller.specs.declared.speech_level.SpeechLevel.the-variants.{Absent}
 use Rattle.input_volume_controller.specs.ClippedRatio.{oneIf}
 use Rattle.input_volume_controller.specs.Calls.{Call, frame}
-use Rattle.claims.specs.LeadIn.{all, accepts, acceptedBy, acceptedIn, isQuiet, quiet, isCalm}
+use Rattle.claims.specs.Past.{isAccepted}
+use Rattle.claims.specs.LeadIn.{all, acceptedBy, acceptedIn, isQuiet, quiet, isCalm}
 use Rattle.claims.specs.TwoPasts.{enough}
 use Rattle.claims.specs.Sharp.{LeadInsExist}
 use Rattle.claims.proofs.Lists.{and-both, is-true}
@@ -58,17 +59,17 @@ module _ (channels : ℕ) where
       once : (n : ℕ) → n ≡ n * 1
       once n = omega arith
 
-  silence-accepted : T (accepts channels (pos 100) 1 silence)
-  unfolding accepts withinOf
+  silence-accepted : T (isAccepted channels (pos 100) 1 silence)
+  unfolding isAccepted withinOf
   silence-accepted = silence-fits
 
   one-accepted : acceptedBy channels silentFrame ≡ 1
   unfolding acceptedBy
-  one-accepted = ap oneIf (is-true (accepts channels (pos 100) 1 silence) silence-accepted)
+  one-accepted = ap oneIf (is-true (isAccepted channels (pos 100) 1 silence) silence-accepted)
 
   silence-calm : T (isCalm channels quiet silentFrame)
   unfolding isCalm
-  silence-calm = or-right (not (accepts channels (pos 100) 1 silence)) (quiet 1 silence) silence-quiet
+  silence-calm = or-right (not (isAccepted channels (pos 100) 1 silence)) (quiet 1 silence) silence-quiet
 
 -- THE CLAIM
 pub lead-ins-exist : LeadInsExist

@@ -24,7 +24,7 @@ use Rattle.input_volume_controller.specs.declared.Applied.{Applied}
 use Rattle.input_volume_controller.specs.declared.Applied.the-variants.{Nothing, Volume}
 use Rattle.input_volume_controller.specs.ClippedRatio.{clippedRatio}
 use Rattle.mono_input_volume_controller.specs.MonoState.{maxInputVolume}
-use Rattle.input_volume_controller.specs.Channels.{freshChannel}
+use Rattle.mono_input_volume_controller.specs.Mono.{created}
 use Rattle.input_volume_controller.specs.Control.{Control}
 use Rattle.input_volume_controller.specs.ControlCalls.{aggregated, withAppliedInputVolume, initialize, switchCapture, lowerChannels, processChannels}
 use Rattle.input_volume_controller.specs.Controller.{Controller, freshWith}
@@ -66,11 +66,11 @@ small-fresh capacity (suc n) = (zero-le, small-fresh capacity n)
 
 pub record KeptControl (s : Settings) (n : ℕ) (c : Control) : Type 0 where
   pub settings : c .settings ≡ s
-  pub cores : map core (c .channels) ≡ replicate n (core (freshChannel s))
+  pub cores : map core (c .channels) ≡ replicate n (core (created s))
   pub early : c .since ≤ s .«clipped_wait»
 
 pub count-of : (s : Settings) (n : ℕ) (c : Control) → KeptControl s n c → length (c .channels) ≡ n
-count-of s n c k = sym (length-map (c .channels) core) ∙ ap length (k .cores) ∙ length-replicate n (core (freshChannel s))
+count-of s n c k = sym (length-map (c .channels) core) ∙ ap length (k .cores) ∙ length-replicate n (core (created s))
 
 module _ (s : Settings) (n : ℕ) where
   kept-initialize : (c : Control) → KeptControl s n c → KeptControl s n (initialize c)
@@ -110,7 +110,7 @@ module _ (p : Predictor.Settings) (s : Settings) (n : ℕ) where
 
   pub kept-fresh : K (freshWith p s n)
   kept-fresh = record {
-    control = record { settings = refl; cores = map-replicate core n (freshChannel s); early = le-refl _ };
+    control = record { settings = refl; cores = map-replicate core n (created s); early = le-refl _ };
     settings = refl;
     count = length-replicate n [];
     small = small-fresh (capacityOf p) n;

@@ -26,7 +26,7 @@ use Rattle.gain_map.specs.VolumeUpdate.{walk}
 use Rattle.clipping_predictor_level_buffer.specs.declared.level.Level.{Level}
 use Rattle.clipping_predictor_level_buffer.specs.declared.Metrics.{Metrics}
 use Rattle.clipping_predictor_level_buffer.specs.declared.Metrics.the-variants.{Found, Missing, Refused}
-use Rattle.clipping_predictor_level_buffer.specs.Level.{levelOf}
+use Rattle.clipping_predictor_level_buffer.specs.Level.{frameRecord}
 use Rattle.clipping_predictor_level_buffer.specs.Metrics.{metricsOver, partialMetrics}
 use Rattle.clipping_predictor_level_buffer.specs.Statistics.{sum, mean, largest}
 use Rattle.clipping_predictor.specs.declared.settings.ClippingPredictorMode.{ClippingPredictorMode}
@@ -53,7 +53,7 @@ use Rattle.input_volume_controller.specs.Reply.{Reply, mark, refusal, volume, n
 use Rattle.input_volume_controller.specs.Frame.{askedOf, unlessWaiting, ifUsed, unlessRefused, withVolumeApplied, analyzeInputAudio}
 use Rattle.input_volume_controller.specs.Recommendation.{recommendIf, unlessNone, recommendInputVolume}
 use Rattle.input_volume_controller.specs.Calls.{after, step, frame, recommendation}
-use Rattle.claims.specs.LeadIn.{isNumber, accepts}
+use Rattle.claims.specs.Past.{isNumber, isAccepted}
 use Rattle.claims.specs.Marked.{Reached, compared, ceilingOf, reachedIf, projectedThen, modeReaches, windowsReach, estimateReaches, nearWhole, isNear, any, estimateMarked, waitIsOver, frameMarked, tenthReply, MarkedExactly}
 use Rattle.claims.proofs.Lists.{and-l, and-r, is-true}
 use Rattle.claims.proofs.Runs.{number-is}
@@ -208,8 +208,8 @@ unfolding withAppliedInputVolume aggregated
 accepted-marked v fits applied samples lent c e f =
     (λ i. unlessRefused (e i) (f i) samples lent c .reply) ∙ used-marked (c .control .used) samples lent (withVolumeApplied applied c)
 
-frames-marked : (c : Controller) (applied samples : ℕ) (lent : List Float) → T (accepts (length (c .control .channels)) (pos applied) samples lent) → step c (frame (pos applied) samples lent) .reply ≡ mark (frameMarked applied samples lent c)
-unfolding accepts analyzeInputAudio withinOf
+frames-marked : (c : Controller) (applied samples : ℕ) (lent : List Float) → T (isAccepted (length (c .control .channels)) (pos applied) samples lent) → step c (frame (pos applied) samples lent) .reply ≡ mark (frameMarked applied samples lent c)
+unfolding isAccepted analyzeInputAudio withinOf
 frames-marked c applied samples lent t = accepted-marked (withinOf 0 maxInputVolume (pos applied)) (frameFits (length (c .control .channels)) samples lent) applied samples lent c
     (number-is (leb 0 applied && leb applied maxInputVolume) applied (and-l (isNumber (withinOf 0 maxInputVolume (pos applied))) (frameFits (length (c .control .channels)) samples lent) t))
     (is-true (frameFits (length (c .control .channels)) samples lent) (and-r (isNumber (withinOf 0 maxInputVolume (pos applied))) (frameFits (length (c .control .channels)) samples lent) t))
@@ -240,7 +240,7 @@ never-marked c probability level near e = clash (sym (ap isMark e) ∙ recommend
 -- ---- two frames
 
 computed : (tenthReply 29208 ≡ mark true) × (tenthReply 29300 ≡ mark false)
-unfolding listed withinOf minus less atMost within magnitudeOf Decibel.levelOf dbfs gain walk levelOf metricsOver partialMetrics sum mean largest dropBy adaptiveDrop estimateTree pushEach frameFits reached marked after called aggregateOf countOf clippedIn mostClipped clippedRatio defaults settingsFrom withAppliedInputVolume lowerChannels analyzeInputAudio ofInt ofBits add mul div lt le
+unfolding listed withinOf minus less atMost within magnitudeOf Decibel.levelOf dbfs gain walk frameRecord metricsOver partialMetrics sum mean largest dropBy adaptiveDrop estimateTree pushEach frameFits reached marked after called aggregateOf countOf clippedIn mostClipped clippedRatio defaults settingsFrom withAppliedInputVolume lowerChannels analyzeInputAudio ofInt ofBits add mul div lt le
 computed = (refl, refl)
 
 -- THE CLAIM

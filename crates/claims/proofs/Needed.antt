@@ -17,7 +17,7 @@ use Rattle.levels.specs.Level.{dbfs}
 use Rattle.gain_map.specs.GainMap.{gain}
 use Rattle.gain_map.specs.VolumeUpdate.{walk}
 use Rattle.clipping_predictor_level_buffer.specs.declared.level.Level.{Level}
-use Rattle.clipping_predictor_level_buffer.specs.Level.{levelOf}
+use Rattle.clipping_predictor_level_buffer.specs.Level.{frameRecord}
 use Rattle.clipping_predictor_level_buffer.specs.Metrics.{metricsOver, partialMetrics}
 use Rattle.clipping_predictor_level_buffer.specs.Statistics.{plusZero, sum, mean, largest}
 use Rattle.clipping_predictor.specs.Tree.{reached}
@@ -36,7 +36,8 @@ use Rattle.input_volume_controller.specs.Controller.{fresh}
 use Rattle.input_volume_controller.specs.Frame.{analyzeInputAudio}
 use Rattle.input_volume_controller.specs.Recommendation.{recommendInputVolume}
 use Rattle.input_volume_controller.specs.Calls.{Call, frame, recommendation, initialise, Answer, after, answers}
-use Rattle.claims.specs.LeadIn.{all, accepts, acceptedBy, acceptedIn, isQuiet, quiet, isCalm, LeadIn}
+use Rattle.claims.specs.Past.{isAccepted}
+use Rattle.claims.specs.LeadIn.{all, acceptedBy, acceptedIn, isQuiet, quiet, isCalm, LeadIn}
 use Rattle.claims.specs.TwoPasts.{enough, RatioFromZero}
 use Rattle.claims.specs.Sharp.{waiting}
 use Rattle.claims.specs.Needed.{withoutInitialise, withVolumeZero, withCaptureOff, PartsAreNeeded}
@@ -60,7 +61,7 @@ abbrev clipped : ℕ → Call
 clipped volume = frame (pos volume) 1 (fin false 32767 (pos 0) ∷ [])
 
 lead : LeadIn 1 quiet (enough settings)
-unfolding settingsFrom withinOf frameFits all accepts acceptedBy acceptedIn isQuiet quiet isCalm ofInt le eq
+unfolding settingsFrom withinOf frameFits all isAccepted acceptedBy acceptedIn isQuiet quiet isCalm ofInt le eq
 lead = record {
   body = replicate 14 (still 50);
   afterInitialise = [];
@@ -112,7 +113,7 @@ record Shown : Type 0 where
   unkept : storedIn (after-calls (withCaptureOff lead) (initialise ∷ [])) ≡ 1
 
 computed : Shown
-unfolding volumeIn lengthOf storedIn after-calls past-clipped past-started lead listed withinOf minus less atMost magnitudeOf Decibel.levelOf dbfs gain walk levelOf metricsOver partialMetrics sum mean largest dropBy adaptiveDrop estimateTree pushEach frameFits reached after answers called aggregateOf countOf clippedIn mostClipped clippedRatio rmsErrorOf isUsers defaults settingsFrom withAppliedInputVolume initialize lowerChannels analyzeInputAudio recommendInputVolume ofInt ofBits add mul div lt le
+unfolding volumeIn lengthOf storedIn after-calls past-clipped past-started lead listed withinOf minus less atMost magnitudeOf Decibel.levelOf dbfs gain walk frameRecord metricsOver partialMetrics sum mean largest dropBy adaptiveDrop estimateTree pushEach frameFits reached after answers called aggregateOf countOf clippedIn mostClipped clippedRatio rmsErrorOf isUsers defaults settingsFrom withAppliedInputVolume initialize lowerChannels analyzeInputAudio recommendInputVolume ofInt ofBits add mul div lt le
 computed = record { lowered = refl; unlowered = refl; muted = refl; unmuted = refl; kept = refl; unkept = refl }
 
 -- THE CLAIM

@@ -18,25 +18,20 @@ use Rattle.mono_input_volume_controller.specs.declared.speech_level.SpeechLevel
 use Rattle.input_volume_controller.specs.declared.Applied.{Applied}
 use Rattle.input_volume_controller.specs.declared.Applied.the-variants.{Nothing, Volume}
 use Rattle.mono_input_volume_controller.specs.MonoState.{maxInputVolume}
-use Rattle.input_volume_controller.specs.Channels.{freshChannel}
+use Rattle.mono_input_volume_controller.specs.Mono.{created}
 use Rattle.input_volume_controller.specs.Control.{Control}
+use Rattle.input_volume_controller.specs.Plain.{isPending}
 use Rattle.input_volume_controller.specs.ControlCalls.{aggregated, withAppliedInputVolume, initialize, lowerChannels}
 use Rattle.input_volume_controller.specs.Controller.{Controller, freshWith}
 use Rattle.input_volume_controller.specs.Reply.{none}
 use Rattle.input_volume_controller.specs.Frame.{unlessRefused, analyzeInputAudio}
 use Rattle.input_volume_controller.specs.Recommendation.{recommendIf, unlessNone, recommendInputVolume}
 use Rattle.input_volume_controller.specs.Calls.{Call, frame, recommendation, initialise, captureSwitch, step, after}
-use Rattle.claims.specs.Causes.{Cause, firstOf, frameCauses}
-use Rattle.claims.specs.Past.{captureOn, noCause}
+use Rattle.claims.specs.Past.{captureOn, isNumber, isAccepted}
 use Rattle.claims.specs.None.{frameSince, NoneExactly}
-use Rattle.claims.proofs.Causes.{isOutside, eightNine, frame-causes}
 use Rattle.claims.proofs.Walk.{Hears, if-used}
 use Rattle.claims.proofs.Capture.{Open, open-next}
 use Rattle.claims.proofs.Newest.{from-newest}
-
-abbrev isPending : Applied → Bool
-isPending Nothing = false
-isPending (Volume v) = true
 
 abbrev Pending : Bool → Control → Type 0
 Pending waiting c = isPending (c .applied) ≡ waiting
@@ -52,7 +47,7 @@ unfolding withAppliedInputVolume aggregated
 applied-waits v c = refl
 
 frame-waits : (v : Natural) (fits waiting : Bool) (samples : ℕ) (lent : List Float) (c : Controller) → Pending waiting (c .control)
-    → Pending (noCause (firstOf (eightNine (isOutside v) (not fits))) || waiting) (unlessRefused v fits samples lent c .state .control)
+    → Pending ((isNumber v && fits) || waiting) (unlessRefused v fits samples lent c .state .control)
 frame-waits Outside fits waiting samples lent c h = h
 frame-waits (Number n) false waiting samples lent c h = h
 frame-waits (Number n) true waiting samples lent c h =
@@ -85,10 +80,9 @@ record Told (count : ℕ) (past : List Call) (c : Controller) : Type 0 where
   pending : Pending (frameSince count past) (c .control)
 
 waits-next : (count : ℕ) (call : Call) (past : List Call) (c : Controller) → Told count past c → Pending (frameSince count (call ∷ past)) (step c call .state .control)
-unfolding frameSince analyzeInputAudio recommendInputVolume initialize aggregated
+unfolding frameSince isAccepted analyzeInputAudio recommendInputVolume initialize aggregated
 waits-next count (frame v samples lent) past c h =
-    subst (λ (causes : List Cause). Pending (noCause (firstOf causes) || frameSince count past) (step c (frame v samples lent) .state .control))
-    (sym (frame-causes (length (c .control .channels)) v samples lent) ∙ ap (λ (n : ℕ). frameCauses n v samples lent) (h .capture .channels))
+    subst (λ (n : ℕ). Pending ((isNumber (withinOf 0 maxInputVolume v) && frameFits n samples lent) || frameSince count past) (step c (frame v samples lent) .state .control)) (h .capture .channels)
     (frame-waits (withinOf 0 maxInputVolume v) (frameFits (length (c .control .channels)) samples lent) (frameSince count past) samples lent c (h .pending))
 waits-next count (recommendation probability level) past c h =
     subst (λ (t : Bool). Pending (not t && frameSince count past) (step c (recommendation probability level) .state .control)) (h .capture .used)
@@ -112,7 +106,7 @@ none-if (Volume v) probability level c = (λ e. absurd (a-volume (c .control .us
 told-after : (predictor : Predictor.Settings) (s : Settings) (count : ℕ) (calls : List Call) → Told count (reverse calls) (after (freshWith predictor s count) calls)
 unfolding captureOn frameSince
 told-after predictor s count calls =
-    from-newest (Told count) (told-next count) calls (freshWith predictor s count) (record { capture = record { used = refl; channels = length-replicate count (freshChannel s) }; pending = refl })
+    from-newest (Told count) (told-next count) calls (freshWith predictor s count) (record { capture = record { used = refl; channels = length-replicate count (created s) }; pending = refl })
 
 pub none-exactly : NoneExactly
 unfolding recommendInputVolume

@@ -13,12 +13,12 @@ use Rattle.clipping_predictor.specs.declared.settings.ClippingPredictorMode.the
 use Rattle.clipping_predictor.specs.Predictor.{pushEach, frameFits}
 use Rattle.input_volume_controller.specs.declared.Applied.the-variants.{Nothing}
 use Rattle.mono_input_volume_controller.specs.Config.{defaults, settingsFrom}
-use Rattle.input_volume_controller.specs.Channels.{freshChannel}
+use Rattle.mono_input_volume_controller.specs.Mono.{created}
 use Rattle.input_volume_controller.specs.ControlCalls.{aggregated, withAppliedInputVolume}
 use Rattle.input_volume_controller.specs.Controller.{Controller}
 use Rattle.input_volume_controller.specs.Frame.{analyzeInputAudio}
 use Rattle.input_volume_controller.specs.Calls.{Call, frame, after}
-use Rattle.claims.specs.Past.{captureOn}
+use Rattle.claims.specs.Past.{captureOn, isAccepted}
 use Rattle.claims.specs.Broken.{recordOf, acceptedFrames, framesOf, NewestOf}
 
 -- one channel that waits after clipping, and a ring with one record, whatever it is
@@ -26,7 +26,7 @@ abbrev waiting : Level → Controller
 waiting before = record {
   control = record {
     settings = settingsFrom defaults;
-    channels = freshChannel (settingsFrom defaults) ∷ [];
+    channels = created (settingsFrom defaults) ∷ [];
     since = 0;
     used = true;
     applied = Nothing;
@@ -45,7 +45,7 @@ silence = frame (pos 100) 1 (fin false 0 (pos 0) ∷ []) ∷ []
 
 -- delay + reference is 2, and one frame is accepted
 pub one-frame : (before : Level) → length (framesOf (waiting before) silence) ≡ 1
-unfolding acceptedFrames captureOn
+unfolding acceptedFrames captureOn isAccepted withinOf frameFits
 one-frame before = refl
 
 two-records : (before : Level) → length (getD (after (waiting before) silence .predictor .rings) 0 []) ≡ 2
@@ -54,7 +54,7 @@ two-records before = refl
 
 -- so the ring stores more than the frame's record
 pub one-too-few : (before : Level) → NewestOf (map (recordOf 0) (framesOf (waiting before) silence)) (getD (after (waiting before) silence .predictor .rings) 0 []) → ⊥
-unfolding acceptedFrames captureOn
+unfolding acceptedFrames captureOn isAccepted withinOf frameFits
 one-too-few before n =
     let all = map (recordOf 0) (framesOf (waiting before) silence) in
     omega (arith, two-records before, ap length (n .is), length-take (n .count) all)

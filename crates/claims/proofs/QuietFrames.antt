@@ -11,7 +11,7 @@ use borrow.Author.Tests.{ltb-true, ltb-false}
 use Rattle.numbers.specs.declared.natural.Natural.the-variants.{Number}
 use Rattle.numbers.proofs.Listed.{length-listed}
 use Rattle.clipping_predictor_level_buffer.specs.declared.level.Level.{Level}
-use Rattle.clipping_predictor_level_buffer.specs.Level.{levelOf}
+use Rattle.clipping_predictor_level_buffer.specs.Level.{frameRecord}
 use Rattle.clipping_predictor_level_buffer.specs.Statistics.{plusZero}
 use Rattle.clipping_predictor.specs.declared.settings.Settings as Predictor
 use Rattle.clipping_predictor.specs.Estimate.{capacityOf}
@@ -71,7 +71,7 @@ module _ (p : Predictor.Settings) (s : Settings) (n : ℕ) (window : 1 ≤ p .wi
     rows =
         subst (λ (x : List (List Level)). Match (isLow p) (capacityOf p) (suc (h .m)) (suc k) x (grow (levelsOf n samples lent) grown)) (sym entered-rings)
         (match-push (isLow p) (capacityOf p) (h .m) k (levelsOf n samples lent) (c .predictor .rings) grown
-        (length-listed (λ i. levelOf (partOf samples lent i)) n ∙ sym (b .count)) low (h .rows))
+        (length-listed (λ i. frameRecord (partOf samples lent i)) n ∙ sym (b .count)) low (h .rows))
 
     pub led-frame : Led p s (grow (levelsOf n samples lent) grown) (suc k) (unlessRefused (Number volume) true samples lent c .state)
     unfolding withAppliedInputVolume aggregated

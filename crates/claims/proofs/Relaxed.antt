@@ -7,7 +7,8 @@ use native.Mathlib.Omega.{arith}
 use lib.Dec.{T}
 use lib.Ieee.{Float}
 use Rattle.input_volume_controller.specs.Calls.{Call, frame, recommendation, initialise, captureSwitch}
-use Rattle.claims.specs.LeadIn.{all, accepts, isCalm, LeadIn}
+use Rattle.claims.specs.Past.{isAccepted}
+use Rattle.claims.specs.LeadIn.{all, isCalm, LeadIn}
 use Rattle.claims.proofs.Lists.{and-l, and-r, and-both}
 
 pub all-by : {A : Type 0} (f g : A → Bool) (xs : List A) → ((x : A) → T (f x) → T (g x)) → T (all f xs) → T (all g xs)
@@ -22,7 +23,7 @@ module _ (channels : ℕ) (strict loose : ℕ → List Float → Bool) (weaker :
 
   pub calm-too : (call : Call) → T (isCalm channels strict call) → T (isCalm channels loose call)
   unfolding isCalm
-  calm-too (frame volume samples lent) t = calm-if (accepts channels volume samples lent) samples lent t
+  calm-too (frame volume samples lent) t = calm-if (isAccepted channels volume samples lent) samples lent t
   calm-too (recommendation probability level) t = tt
   calm-too initialise t = tt
   calm-too (captureSwitch on) t = t

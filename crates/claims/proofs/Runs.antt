@@ -19,7 +19,8 @@ use Rattle.input_volume_controller.specs.Controller.{Controller}
 use Rattle.input_volume_controller.specs.Frame.{unlessRefused, analyzeInputAudio}
 use Rattle.input_volume_controller.specs.Recommendation.{recommendIf, unlessNone, recommendInputVolume}
 use Rattle.input_volume_controller.specs.Calls.{Call, frame, recommendation, initialise, captureSwitch, step, after}
-use Rattle.claims.specs.LeadIn.{all, isNumber, accepts, isRefused}
+use Rattle.claims.specs.Past.{isNumber, isAccepted}
+use Rattle.claims.specs.LeadIn.{all, isRefused}
 use Rattle.claims.proofs.Lists.{and-l, and-r, is-true}
 
 pub after-append : (a b : List Call) (c : Controller) → after c (a ++ b) ≡ after (after c a) b
@@ -34,7 +35,7 @@ refused-same (Number volume) false samples lent c t = refl
 refused-same (Number volume) true samples lent c t = absurd t
 
 pub step-refused : (n : ℕ) (call : Call) (c : Controller) → length (c .control .channels) ≡ n → T (isRefused n call) → step c call .state ≡ c
-unfolding isRefused accepts analyzeInputAudio
+unfolding isRefused isAccepted analyzeInputAudio
 step-refused n (frame volume samples lent) c e t =
     refused-same (withinOf 0 maxInputVolume volume) (frameFits (length (c .control .channels)) samples lent) samples lent c
     (subst (λ (x : ℕ). T (not (isNumber (withinOf 0 maxInputVolume volume) && frameFits x samples lent))) (sym e) t)
@@ -57,9 +58,9 @@ pub number-is : (b : Bool) (n : ℕ) → T (isNumber (numberIf b n)) → numberI
 number-is true n t = refl
 number-is false n t = absurd t
 
-pub step-accepted : (n v samples : ℕ) (lent : List Float) (c : Controller) → length (c .control .channels) ≡ n → T (accepts n (pos v) samples lent)
+pub step-accepted : (n v samples : ℕ) (lent : List Float) (c : Controller) → length (c .control .channels) ≡ n → T (isAccepted n (pos v) samples lent)
     → step c (frame (pos v) samples lent) .state ≡ unlessRefused (Number v) true samples lent c .state
-unfolding accepts analyzeInputAudio withinOf
+unfolding isAccepted analyzeInputAudio withinOf
 step-accepted n v samples lent c e t =
     let number : Natural = withinOf 0 maxInputVolume (pos v) in
     (λ i. unlessRefused (number-is (leb 0 v && leb v maxInputVolume) v (and-l (isNumber number) (frameFits n samples lent) t) i) (frameFits (e i) samples lent) samples lent c .state)

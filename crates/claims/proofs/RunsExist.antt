@@ -21,7 +21,7 @@ use Rattle.mono_input_volume_controller.specs.Config.{defaults, settingsFrom, s
 use Rattle.mono_input_volume_controller.specs.Config as Configs
 use Rattle.mono_input_volume_controller.proofs.Checked.{defaults-in-order, good-settings, checked-good}
 use Rattle.input_volume_controller.specs.declared.InputVolumeController.{InputVolumeController}
-use Rattle.input_volume_controller.specs.Channels.{freshChannel}
+use Rattle.mono_input_volume_controller.specs.Mono.{created}
 use Rattle.input_volume_controller.specs.Controller.{Controller, viewOf, Good, predictorSettings, fresh, madeOf, makingOf}
 use Rattle.input_volume_controller.specs.Calls.{Call, Typed, step}
 use Rattle.claims.specs.Run.{none, next}
@@ -51,8 +51,8 @@ fresh-sane s count g low high = record {
   high = high;
   control = record {
     settings = g;
-    count = length-replicate count (freshChannel s);
-    each = every-replicate Mono.Good count (freshChannel s) (omega (arith, g .least-le, g .floor-le, g .wait-low, g .wait-le));
+    count = length-replicate count (created s);
+    each = every-replicate Mono.Good count (created s) (omega (arith, g .least-le, g .floor-le, g .wait-low, g .wait-le));
     volume = zero-le;
   };
   predictor = record {

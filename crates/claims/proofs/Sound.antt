@@ -10,7 +10,8 @@ use Rattle.mono_input_volume_controller.specs.declared.mono.MonoInputVolumeCont
 use Rattle.input_volume_controller.specs.declared.Applied.{Applied}
 use Rattle.input_volume_controller.specs.declared.Applied.the-variants.{Nothing, Volume}
 use Rattle.mono_input_volume_controller.specs.MonoState.{maxWait, Good}
-use Rattle.input_volume_controller.specs.Channels.{called, freshChannel, aggregateOf}
+use Rattle.mono_input_volume_controller.specs.Mono.{created}
+use Rattle.input_volume_controller.specs.Channels.{called, aggregateOf}
 use Rattle.input_volume_controller.specs.Control.{Control}
 use Rattle.input_volume_controller.specs.ControlCalls.{raisedFor, aggregated, withAppliedInputVolume, initialize, lowerChannels, processChannels}
 use Rattle.input_volume_controller.specs.Controller.{freshWith}
@@ -79,7 +80,7 @@ module _ (s : Settings) (n : ℕ) (low : s .least ≤ 255) where
 pub sound-fresh : (p : Predictor.Settings) (s : Settings) (n : ℕ) → s .least ≤ 255 → s .floor ≤ 255 → 1 ≤ s .«update_wait» → s .«update_wait» ≤ maxWait → Sound s n (freshWith p s n .control)
 sound-fresh p s n a b c d = record {
   settings = refl;
-  channels = record { one = record { state = freshChannel s; holds = omega arith; equal = refl }; first = refl };
+  channels = record { one = record { state = created s; holds = omega arith; equal = refl }; first = refl };
   volume = omega arith;
   applied = tt;
 }

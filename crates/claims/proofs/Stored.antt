@@ -11,7 +11,7 @@ use lib.ListN.{length, getD, take, length-take, length-map, List·getD-map}
 use lib.Seq.{take-take, take-all, take-length, take-append-le}
 use Rattle.numbers.proofs.Listed.{length-listed, getD-listed}
 use Rattle.clipping_predictor_level_buffer.specs.declared.level.Level.{Level}
-use Rattle.clipping_predictor_level_buffer.specs.Level.{levelOf}
+use Rattle.clipping_predictor_level_buffer.specs.Level.{frameRecord}
 use Rattle.clipping_predictor_level_buffer.specs.Ring.{noLevel, push}
 use Rattle.clipping_predictor.specs.declared.settings.Settings.{Settings}
 use Rattle.clipping_predictor.specs.Estimate.{capacityIf, capacityOf}
@@ -89,9 +89,9 @@ stored-emptied start frames p h = record {
 
 -- the record of a channel is the one that a frame yields for it
 ring-entered : (p : Predictor) (samples : ℕ) (lent : List Float) (channel : ℕ) → channel < length (p .rings)
-    → getD (enteredIf true samples lent p .rings) channel [] ≡ push (capacityOf (p .settings)) (levelOf (partOf samples lent channel)) (getD (p .rings) channel [])
+    → getD (enteredIf true samples lent p .rings) channel [] ≡ push (capacityOf (p .settings)) (frameRecord (partOf samples lent channel)) (getD (p .rings) channel [])
 ring-entered p samples lent channel h =
-    let level : ℕ → Level = λ c. levelOf (partOf samples lent c) in
+    let level : ℕ → Level = λ c. frameRecord (partOf samples lent c) in
     ring-pushed (capacityOf (p .settings)) (levelsOf (length (p .rings)) samples lent) (p .rings) channel (rw length-listed h) h
     ∙ ap (λ (l : Level). push (capacityOf (p .settings)) l (getD (p .rings) channel [])) (getD-listed level (length (p .rings)) channel noLevel h)
 
@@ -102,8 +102,8 @@ stored-entered start frames p samples lent h = record {
   rings = length-pushed (capacityOf (p .settings)) (levelsOf (length (p .rings)) samples lent) (p .rings) ∙ h .rings;
   each = λ channel k.
       subst (Held (capacityOf (start .settings)) _ _)
-      (sym (ring-entered p samples lent channel (omega (arith, h .rings)) ∙ ap (λ (s : Settings). push (capacityOf s) (levelOf (partOf samples lent channel)) (getD (p .rings) channel [])) (h .settings)))
-      (held-pushed (capacityOf (start .settings)) (levelOf (partOf samples lent channel)) _ _ _ (h .each channel k));
+      (sym (ring-entered p samples lent channel (omega (arith, h .rings)) ∙ ap (λ (s : Settings). push (capacityOf s) (frameRecord (partOf samples lent channel)) (getD (p .rings) channel [])) (h .settings)))
+      (held-pushed (capacityOf (start .settings)) (frameRecord (partOf samples lent channel)) _ _ _ (h .each channel k));
 }
 
 -- THE END: with delay + reference frames, and at least one, each ring stores records of these frames alone

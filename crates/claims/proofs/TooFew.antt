@@ -17,7 +17,7 @@ use Rattle.levels.specs.Level.{dbfs}
 use Rattle.gain_map.specs.GainMap.{gain}
 use Rattle.gain_map.specs.VolumeUpdate.{walk}
 use Rattle.clipping_predictor_level_buffer.specs.declared.level.Level.{Level}
-use Rattle.clipping_predictor_level_buffer.specs.Level.{levelOf}
+use Rattle.clipping_predictor_level_buffer.specs.Level.{frameRecord}
 use Rattle.clipping_predictor_level_buffer.specs.Metrics.{metricsOver, partialMetrics}
 use Rattle.clipping_predictor_level_buffer.specs.Statistics.{plusZero, sum, mean, largest}
 use Rattle.clipping_predictor.specs.Tree.{reached}
@@ -34,7 +34,8 @@ use Rattle.input_volume_controller.specs.Controller.{fresh}
 use Rattle.input_volume_controller.specs.Frame.{analyzeInputAudio}
 use Rattle.input_volume_controller.specs.Recommendation.{recommendInputVolume}
 use Rattle.input_volume_controller.specs.Calls.{Call, frame, initialise, Answer, after, answers}
-use Rattle.claims.specs.LeadIn.{all, accepts, acceptedBy, acceptedIn, isQuiet, quiet, isCalm, LeadIn, callsOf}
+use Rattle.claims.specs.Past.{isAccepted}
+use Rattle.claims.specs.LeadIn.{all, acceptedBy, acceptedIn, isQuiet, quiet, isCalm, LeadIn, callsOf}
 use Rattle.claims.specs.TwoPasts.{enough, RatioFromZero}
 use Rattle.claims.specs.Sharp.{waiting, TwoFewerAreTooFew}
 
@@ -57,7 +58,7 @@ abbrev body : ℕ → List Call
 body k = still 50 ∷ still 50 ∷ still 50 ∷ still 200 ∷ replicate k (still 50)
 
 lead : (k least : ℕ) → T (all (isCalm 1 quiet) (body k)) → least ≤ acceptedIn 1 (body k) → LeadIn 1 quiet least
-unfolding withinOf frameFits all accepts isQuiet quiet ofInt le eq
+unfolding withinOf frameFits all isAccepted isQuiet quiet ofInt le eq
 lead k least calm long = record {
   body = body k;
   afterInitialise = [];
@@ -80,11 +81,11 @@ abbrev settings : ℕ → Settings
 settings wait = settingsFrom (waiting wait)
 
 twelve : LeadIn 1 quiet (enough (settings 0) - 2)
-unfolding settingsFrom withinOf frameFits all accepts acceptedBy acceptedIn isQuiet quiet isCalm ofInt le eq
+unfolding settingsFrom withinOf frameFits all isAccepted acceptedBy acceptedIn isQuiet quiet isCalm ofInt le eq
 twelve = lead 8 12 tt (lit≤ tt)
 
 three-hundred-two : LeadIn 1 quiet (enough (settings 300) - 2)
-unfolding settingsFrom withinOf frameFits all accepts acceptedBy acceptedIn isQuiet quiet isCalm ofInt le eq
+unfolding settingsFrom withinOf frameFits all isAccepted acceptedBy acceptedIn isQuiet quiet isCalm ofInt le eq
 three-hundred-two = lead 298 302 tt (lit≤ tt)
 
 -- how many records the ring shows after one call more
@@ -112,7 +113,7 @@ record Shown : Type 0 where
   empty : shown (clippedAfter []) ≡ 0
 
 computed : Shown
-unfolding shown lengthOf initialised clippedAfter twelve three-hundred-two lead listed withinOf minus less atMost magnitudeOf Decibel.levelOf dbfs gain walk levelOf metricsOver partialMetrics sum mean largest dropBy adaptiveDrop estimateTree pushEach frameFits reached after answers called aggregateOf countOf clippedIn mostClipped clippedRatio defaults settingsFrom withAppliedInputVolume initialize lowerChannels analyzeInputAudio recommendInputVolume ofInt ofBits add mul div lt le callsOf
+unfolding shown lengthOf initialised clippedAfter twelve three-hundred-two lead listed withinOf minus less atMost magnitudeOf Decibel.levelOf dbfs gain walk frameRecord metricsOver partialMetrics sum mean largest dropBy adaptiveDrop estimateTree pushEach frameFits reached after answers called aggregateOf countOf clippedIn mostClipped clippedRatio defaults settingsFrom withAppliedInputVolume initialize lowerChannels analyzeInputAudio recommendInputVolume ofInt ofBits add mul div lt le callsOf
 computed = record { nine = refl; ten = refl; full = refl; empty = refl }
 
 none-in-order : settingsOf (waiting 0) ≡ InOrder (settings 0)

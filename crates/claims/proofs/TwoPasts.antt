@@ -10,7 +10,7 @@ use lib.ListN.{drop}
 use Rattle.numbers.specs.Listed.{listed}
 use Rattle.levels.specs.FloatParts.{magnitudeOf}
 use Rattle.clipping_predictor_level_buffer.specs.Statistics.{plusZero, secondIf, larger, largest}
-use Rattle.clipping_predictor_level_buffer.specs.Level.{levelOf}
+use Rattle.clipping_predictor_level_buffer.specs.Level.{frameRecord}
 use Rattle.clipping_predictor.specs.declared.settings.Settings as Predictor
 use Rattle.clipping_predictor.specs.Settings.{Good}
 use Rattle.clipping_predictor.specs.Predictor.{partOf, levelsOf}
@@ -54,15 +54,15 @@ own-good : (on : Bool) → Good (predictorSettings on)
 own-good on = record { window-low = lit≤ tt; reference-low = lit≤ tt; window-high = lit< tt; room = lit≤ tt; threshold-bound = lit≤ tt; margin-bound = lit≤ tt }
 
 module _ (on : Bool) where
-  channel-low : (xs : List Float) → T (all isQuiet xs) → T (isLow (predictorSettings on) (levelOf xs))
-  unfolding isLow levelOf largest
+  channel-low : (xs : List Float) → T (all isQuiet xs) → T (isLow (predictorSettings on) (frameRecord xs))
+  unfolding isLow frameRecord largest
   channel-low xs t = low-level (largest (map magnitudeOf xs)) (peak-up-to plusZero xs zero-up-to t)
 
   quiet-in-general : (channels samples : ℕ) (lent : List Float) → T (quiet samples lent) → T (quietFor (predictorSettings on) channels samples lent)
   unfolding quiet quietFor
   quiet-in-general channels samples lent t =
       and-both (all isSound lent) (all (isLow (predictorSettings on)) (levelsOf channels samples lent)) (all-by isQuiet isSound lent sound t)
-      (all-listed (isLow (predictorSettings on)) (λ c. levelOf (partOf samples lent c)) channels
+      (all-listed (isLow (predictorSettings on)) (λ c. frameRecord (partOf samples lent c)) channels
       (λ c. channel-low (partOf samples lent c) (all-take isQuiet samples (drop (c * samples) lent) (all-drop isQuiet (c * samples) lent t))))
 
 -- two pasts lead to the same state, with one accepted frame fewer in the lead-in than the claim asks

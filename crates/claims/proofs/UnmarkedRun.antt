@@ -13,7 +13,7 @@ use Rattle.numbers.specs.Natural.{withinOf}
 use Rattle.numbers.proofs.Signs.{clash}
 use Rattle.levels.specs.FloatParts.{magnitudeOf}
 use Rattle.clipping_predictor_level_buffer.specs.declared.level.Level.{Level}
-use Rattle.clipping_predictor_level_buffer.specs.Level.{levelOf}
+use Rattle.clipping_predictor_level_buffer.specs.Level.{frameRecord}
 use Rattle.clipping_predictor_level_buffer.specs.Statistics.{plusZero, largest}
 use Rattle.clipping_predictor.specs.declared.settings.Settings.{Settings}
 use Rattle.clipping_predictor.specs.declared.modes.Asked.{Asked}
@@ -89,13 +89,13 @@ magnitudes-fit : (xs : List Float) → Every (λ (x : Float). T (fits binary32 x
 magnitudes-fit [] f = tt
 magnitudes-fit (x ∷ xs) f = (magnitude-fits x (f .0), magnitudes-fit xs (f .1))
 
-level-fits : (xs : List Float) → Every (λ (x : Float). T (fits binary32 x)) xs → PeakFits (levelOf xs)
-unfolding levelOf largest
+level-fits : (xs : List Float) → Every (λ (x : Float). T (fits binary32 x)) xs → PeakFits (frameRecord xs)
+unfolding frameRecord largest
 level-fits xs f = fold-fits (map magnitudeOf xs) plusZero zero-fits (magnitudes-fit xs f)
 
 levels-fit : (channels samples : ℕ) (lent : List Float) → Every (λ (x : Float). T (fits binary32 x)) lent → Every PeakFits (levelsOf channels samples lent)
 levels-fit channels samples lent f =
-    every-listed PeakFits (λ c. levelOf (partOf samples lent c)) channels
+    every-listed PeakFits (λ c. frameRecord (partOf samples lent c)) channels
     (λ c h. level-fits (partOf samples lent c) (every-take (λ (x : Float). T (fits binary32 x)) samples (drop (c * samples) lent) (every-drop (λ (x : Float). T (fits binary32 x)) (c * samples) lent f)))
 
 push-fits : (capacity : ℕ) (levels : List Level) (rings : List (List Level)) → Every PeakFits levels → Every (Every PeakFits) rings → Every (Every PeakFits) (pushEach capacity levels rings)

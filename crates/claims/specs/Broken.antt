@@ -10,7 +10,7 @@ use Prim.Native.Nat.{ℕ, _+_, _≤_, _<_}
 use lib.Ieee.{Float}
 use lib.ListN.{length, getD, take}
 use Rattle.clipping_predictor_level_buffer.specs.declared.level.Level.{Level}
-use Rattle.clipping_predictor_level_buffer.specs.Level.{levelOf}
+use Rattle.clipping_predictor_level_buffer.specs.Level.{frameRecord}
 use Rattle.clipping_predictor.specs.Predictor.{partOf}
 use Rattle.input_volume_controller.specs.Controller.{Controller}
 use Rattle.input_volume_controller.specs.Calls.{Call, frame, recommendation, initialise, captureSwitch, after}
@@ -23,7 +23,7 @@ pub record Frame : Type 0 where
 
 -- the record that a frame yields for a channel
 abbrev pub recordOf : ℕ → Frame → Level
-recordOf channel f = levelOf (partOf (f .samples) (f .lent) channel)
+recordOf channel f = frameRecord (partOf (f .samples) (f .lent) channel)
 
 abbrev pub withIf : Bool → Frame → List Frame → List Frame
 withIf true f frames = f ∷ frames

@@ -87,18 +87,18 @@ constant (pos n) = ratio (10 ^ n) 1
 constant (negsuc n) = ratio 1 (10 ^ suc n)
 
 -- The exact level of a float, to the power p. A finite one without its sign is m * up e / down e; one at 1 or below counts as 1, of level 0.
-unfoldable pub levelOf : ℕ → Float → Exact
-levelOf p nan = notANumber
-levelOf p (inf true) = ratio 1 1
-levelOf p (inf false) = plusInfinity
-levelOf p (fin true m e) = ratio 1 1
-levelOf p (fin false m e) = ratio (max (m * up e) (down e) ^ p) (down e ^ p)
+unfoldable pub exactLevel : ℕ → Float → Exact
+exactLevel p nan = notANumber
+exactLevel p (inf true) = ratio 1 1
+exactLevel p (inf false) = plusInfinity
+exactLevel p (fin true m e) = ratio 1 1
+exactLevel p (fin false m e) = ratio (max (m * up e) (down e) ^ p) (down e ^ p)
 
 abbrev pub d : Float → Exact
-d v = levelOf 20000 v
+d v = exactLevel 20000 v
 
 abbrev pub h : Float → Exact
-h a = levelOf 10000 a
+h a = exactLevel 10000 a
 
 -- d(v) - 90,310; `negsuc 90309` is -90,310
 abbrev pub offset : Exact

@@ -5,9 +5,6 @@ use Prim.Native.Nat.{ℕ, _+_, _≤_}
 use lib.Dec.{T}
 use lib.IntN.{ℤ, pos, negsuc}
 use lib.Ieee.{Float, binary32, isNan, le, ofInt}
-use Rattle.numbers.specs.declared.natural.Natural.{Natural}
-use Rattle.numbers.specs.declared.natural.Natural.the-variants.{Number, Outside}
-use Rattle.numbers.specs.Natural.{withinOf}
 use Rattle.levels.specs.declared.decibels.Decibels.the-variants.{Finite}
 use Rattle.levels.specs.Decibels.{atMost}
 use Rattle.levels.specs.Level.{dbfs}
@@ -16,11 +13,11 @@ use Rattle.clipping_predictor.specs.declared.settings.ClippingPredictorMode.{Cl
 use Rattle.clipping_predictor.specs.declared.settings.ClippingPredictorMode.the-variants.{ClippingEventPrediction, AdaptiveStepClippingPeakPrediction, FixedStepClippingPeakPrediction}
 use Rattle.clipping_predictor.specs.declared.settings.Settings.{Settings}
 use Rattle.clipping_predictor.specs.Estimate.{wholeDb}
-use Rattle.clipping_predictor.specs.Predictor.{levelsOf, frameFits}
+use Rattle.clipping_predictor.specs.Predictor.{levelsOf}
 use Rattle.mono_input_volume_controller.specs.declared.speech_level.SpeechLevel.{SpeechLevel}
 use Rattle.input_volume_controller.specs.ClippedRatio.{isClipped, oneIf}
-use Rattle.mono_input_volume_controller.specs.MonoState.{maxInputVolume}
 use Rattle.input_volume_controller.specs.Calls.{Call, frame, recommendation, initialise, captureSwitch}
+use Rattle.claims.specs.Past.{isAccepted}
 
 -- a test that every member of a list passes
 unfoldable pub all : {A : Type 0} → (A → Bool) → List A → Bool
@@ -29,17 +26,9 @@ all f (x ∷ xs) = f x && all f xs
 
 -- ---- accepted frames
 
-abbrev pub isNumber : Natural → Bool
-isNumber (Number n) = true
-isNumber Outside = false
-
--- "accepted is not refused": neither cause 8 nor cause 9 holds
-unfoldable pub accepts : ℕ → ℤ → ℕ → List Float → Bool
-accepts channels volume samples lent = isNumber (withinOf 0 maxInputVolume volume) && frameFits channels samples lent
-
 -- how many accepted frames a call is, and how many a list of calls has
 unfoldable pub acceptedBy : ℕ → Call → ℕ
-acceptedBy channels (frame volume samples lent) = oneIf (accepts channels volume samples lent)
+acceptedBy channels (frame volume samples lent) = oneIf (isAccepted channels volume samples lent)
 acceptedBy channels (recommendation probability level) = 0
 acceptedBy channels initialise = 0
 acceptedBy channels (captureSwitch on) = 0
@@ -50,7 +39,7 @@ acceptedIn channels (call ∷ calls) = acceptedBy channels call + acceptedIn cha
 
 -- "Refused frames may stand anywhere.": a refused frame
 unfoldable pub isRefused : ℕ → Call → Bool
-isRefused channels (frame volume samples lent) = not (accepts channels volume samples lent)
+isRefused channels (frame volume samples lent) = not (isAccepted channels volume samples lent)
 isRefused channels (recommendation probability level) = false
 isRefused channels initialise = false
 isRefused channels (captureSwitch on) = false
@@ -87,7 +76,7 @@ quietFor p channels samples lent = all isSound lent && all (isLow p) (levelsOf c
 module _ (channels : ℕ) (isStill : ℕ → List Float → Bool) where
   -- "any list of these calls without a switching off, in which every accepted frame is quiet": each of its calls
   unfoldable pub isCalm : Call → Bool
-  isCalm (frame volume samples lent) = not (accepts channels volume samples lent) || isStill samples lent
+  isCalm (frame volume samples lent) = not (isAccepted channels volume samples lent) || isStill samples lent
   isCalm (recommendation probability level) = true
   isCalm initialise = true
   isCalm (captureSwitch on) = on
@@ -109,7 +98,7 @@ module _ (channels : ℕ) (isStill : ℕ → List Float → Bool) where
     pub afterRecommendation : List Call
     pub calm : T (all isCalm body)
     pub long : enough ≤ acceptedIn channels body
-    pub accepted : T (accepts channels (pos volume) samples lent)
+    pub accepted : T (isAccepted channels (pos volume) samples lent)
     pub still : T (isStill samples lent)
     pub positive : 1 ≤ volume
     pub refused : T (all (isRefused channels) (afterInitialise ++ (afterFrame ++ afterRecommendation)))

@@ -33,7 +33,7 @@ use Rattle.input_volume_controller.specs.Controller.{Controller, fresh}
 use Rattle.input_volume_controller.specs.Reply.{Reply, mark}
 use Rattle.input_volume_controller.specs.Frame.{askedOf}
 use Rattle.input_volume_controller.specs.Calls.{Call, frame, recommendation, step, after}
-use Rattle.claims.specs.LeadIn.{accepts}
+use Rattle.claims.specs.Past.{isAccepted}
 
 -- ---- what an estimate reaches
 
@@ -120,7 +120,7 @@ tenthReply sample = step (after (fresh (settingsFrom defaults) 1) (replicate 9 (
 -- THE CLAIM
 pub record MarkedExactly : Type 0 where
   pub estimate : (s : Settings) (records : List Level) (a : Asked) → marked (estimateTree s records a) ≡ estimateMarked s records a
-  pub frames : (c : Controller) (volume samples : ℕ) (lent : List Float) → T (accepts (length (c .control .channels)) (pos volume) samples lent)
+  pub frames : (c : Controller) (volume samples : ℕ) (lent : List Float) → T (isAccepted (length (c .control .channels)) (pos volume) samples lent)
       → step c (frame (pos volume) samples lent) .reply ≡ mark (frameMarked volume samples lent c)
   pub recommendations : (c : Controller) (probability : Float) (level : SpeechLevel) (near : Bool) → step c (recommendation probability level) .reply ≡ mark near → ⊥
   -- a peak at -1.000 dB is near the threshold; one of 29,300 is not, nor is its P, above the threshold, near a whole dB

@@ -15,7 +15,8 @@ use Rattle.mono_input_volume_controller.specs.Config.{defaults, settingsOf}
 use Rattle.input_volume_controller.specs.Controller.{Controller, freshWith, fresh}
 use Rattle.input_volume_controller.specs.Reply.{Reply, mark, refusal, volume, none, done}
 use Rattle.input_volume_controller.specs.Calls.{frame, step}
-use Rattle.claims.specs.LeadIn.{accepts, acceptedIn, quiet, quietFor, LeadIn, callsOf}
+use Rattle.claims.specs.Past.{isAccepted}
+use Rattle.claims.specs.LeadIn.{acceptedIn, quiet, quietFor, LeadIn, callsOf}
 use Rattle.claims.specs.TwoPasts.{AlikeAfter, RatioFromZero, enough, enoughFor}
 
 abbrev pub isRefusal : Reply → Bool
@@ -25,11 +26,11 @@ isRefusal (volume v) = false
 isRefusal none = false
 isRefusal done = false
 
--- "accepted is not refused": a frame's reply is a refusal exactly where `accepts` fails
+-- "accepted is not refused": a frame's reply is a refusal exactly where `isAccepted` fails
 abbrev pub AcceptedIsNotRefused : Type 0
 AcceptedIsNotRefused =
     (c : Controller) (volume : ℤ) (samples : ℕ) (lent : List Float)
-    → isRefusal (step c (frame volume samples lent) .reply) ≡ not (accepts (length (c .control .channels)) volume samples lent)
+    → isRefusal (step c (frame volume samples lent) .reply) ≡ not (isAccepted (length (c .control .channels)) volume samples lent)
 
 -- for all settings and every channel count there is a lead-in with exactly as many accepted frames as the claim asks
 abbrev pub LeadInsExist : Type 0

@@ -18,7 +18,7 @@ use Rattle.clipping_predictor_level_buffer.specs.declared.level.Level.{Level}
 use Rattle.clipping_predictor_level_buffer.specs.declared.level.Measured.{Measured}
 use Rattle.clipping_predictor_level_buffer.specs.declared.level.Measured.the-variants as Measured
 use Rattle.clipping_predictor_level_buffer.specs.declared.ClippingPredictorLevelBuffer.{ClippingPredictorLevelBuffer}
-use Rattle.clipping_predictor_level_buffer.specs.Level.{maxSamplesPerChannel, levelOf, measureOf}
+use Rattle.clipping_predictor_level_buffer.specs.Level.{maxSamplesPerChannel, frameRecord, measureOf}
 use Rattle.clipping_predictor_level_buffer.specs.Ring.{stored, push, Pushed, Emptied}
 use Rattle.clipping_predictor.specs.declared.settings.Settings.{Settings}
 use Rattle.clipping_predictor.specs.declared.ClippingPredictor.{ClippingPredictor}
@@ -29,11 +29,11 @@ use Rattle.clipping_predictor.specs.Predictor.{maxChannels, noRing, ring
 
 -- ---- a frame that fits
 
-pub measured : (samples : List Float) → 1 ≤ length samples → length samples ≤ maxSamplesPerChannel → measureOf samples ≡ Measured.Level (levelOf samples)
+pub measured : (samples : List Float) → 1 ≤ length samples → length samples ≤ maxSamplesPerChannel → measureOf samples ≡ Measured.Level (frameRecord samples)
 unfolding measureOf
 measured samples h k = rw (le-leb 1 (length samples) h, le-leb (length samples) maxSamplesPerChannel k)
 
-pub is-level : (samples : List Float) (l : Level) → 1 ≤ length samples → length samples ≤ maxSamplesPerChannel → measureOf samples ≡ Measured.Level l → l ≡ levelOf samples
+pub is-level : (samples : List Float) (l : Level) → 1 ≤ length samples → length samples ≤ maxSamplesPerChannel → measureOf samples ≡ Measured.Level l → l ≡ frameRecord samples
 is-level samples l h k e = let m = measured samples h k in cc
 
 pub not-refused : (samples : List Float) (cause : Refusal) → 1 ≤ length samples → length samples ≤ maxSamplesPerChannel → measureOf samples ≡ Measured.Refused cause → ⊥
@@ -90,7 +90,7 @@ pub record Kept (p r : ClippingPredictor) : Type 0 where
   pub channels : r .channels ≡ p .channels
 
 abbrev pub PushedAt : ℕ → List Float → ℕ → ClippingPredictorLevelBuffer → ClippingPredictorLevelBuffer → Type 0
-PushedAt samples frame c old new = Pushed old (levelOf (partOf samples frame c)) new
+PushedAt samples frame c old new = Pushed old (frameRecord (partOf samples frame c)) new
 
 abbrev pub EmptiedAt : ℕ → ClippingPredictorLevelBuffer → ClippingPredictorLevelBuffer → Type 0
 EmptiedAt c old new = Emptied (old .capacity) new
@@ -105,11 +105,11 @@ module _ (s : Settings) (old new : ClippingPredictorLevelBuffer) (level : Level)
 
 -- the rings that a frame has entered
 entered-rings : (p : ClippingPredictor) (samples : ℕ) (frame : List Float)
-    → enteredIf true samples frame (viewOf p) .rings ≡ listed (λ c. push (capacityOf (p .settings)) (levelOf (partOf samples frame c)) (stored (ringAt p c))) (p .channels)
+    → enteredIf true samples frame (viewOf p) .rings ≡ listed (λ c. push (capacityOf (p .settings)) (frameRecord (partOf samples frame c)) (stored (ringAt p c))) (p .channels)
 unfolding viewOf
 entered-rings p samples frame =
     ap (λ (n : ℕ). pushEach (capacityOf (p .settings)) (levelsOf n samples frame) (listed (λ c. stored (ringAt p c)) (p .channels))) (length-listed (λ c. stored (ringAt p c)) (p .channels))
-    ∙ push-listed (capacityOf (p .settings)) (λ c. levelOf (partOf samples frame c)) (λ c. stored (ringAt p c)) (p .channels)
+    ∙ push-listed (capacityOf (p .settings)) (λ c. frameRecord (partOf samples frame c)) (λ c. stored (ringAt p c)) (p .channels)
 
 pub entered-length : (p : ClippingPredictor) (samples : ℕ) (frame : List Float) → length (enteredIf true samples frame (viewOf p) .rings) ≡ p .channels
 entered-length p samples frame = ap length (entered-rings p samples frame) ∙ length-listed _ (p .channels)
@@ -117,9 +117,9 @@ entered-length p samples frame = ap length (entered-rings p samples frame) ∙ l
 pub entered-at : (p : ClippingPredictor) (samples : ℕ) (frame : List Float) (c : ℕ) (new : ClippingPredictorLevelBuffer) → Good p → p .settings .enabled ≡ true → c < p .channels
     → PushedAt samples frame c (ringAt p c) new → stored new ≡ getD (enteredIf true samples frame (viewOf p) .rings) c none
 entered-at p samples frame c new good on h pushed =
-    pushed-stored (p .settings) (ringAt p c) new (levelOf (partOf samples frame c)) on (good .each c h) pushed
+    pushed-stored (p .settings) (ringAt p c) new (frameRecord (partOf samples frame c)) on (good .each c h) pushed
     ∙ sym (ap (λ (l : List (List Level)). getD l c none) (entered-rings p samples frame)
-    ∙ getD-listed (λ i. push (capacityOf (p .settings)) (levelOf (partOf samples frame i)) (stored (ringAt p i))) (p .channels) c none h)
+    ∙ getD-listed (λ i. push (capacityOf (p .settings)) (frameRecord (partOf samples frame i)) (stored (ringAt p i))) (p .channels) c none h)
 
 module _ (p r : ClippingPredictor) (good : Good p) (kept : Kept p r) where
   view-of : (f : ℕ → List Level) → ((c : ℕ) → c < p .channels → stored (ringAt r c) ≡ f c) → viewOf r ≡ record { settings = p .settings; rings = listed f (p .channels) }
@@ -141,10 +141,10 @@ module _ (p r : ClippingPredictor) (good : Good p) (kept : Kept p r) where
   pub all-pushed : (samples : ℕ) (frame : List Float) → p .settings .enabled ≡ true → Replaced noRing (PushedAt samples frame) (p .channels) (p .rings) (r .rings) → Entered p samples frame r
   unfolding viewOf
   all-pushed samples frame on done = record {
-    good = good-of (done .same-length) (λ c h. pushed-good (p .settings) (ringAt p c) (ringAt r c) (levelOf (partOf samples frame c)) on (good .each c h) (done .done c h));
+    good = good-of (done .same-length) (λ c h. pushed-good (p .settings) (ringAt p c) (ringAt r c) (frameRecord (partOf samples frame c)) on (good .each c h) (done .done c h));
     settings = kept .settings;
     view =
-        view-of (λ c. push (capacityOf (p .settings)) (levelOf (partOf samples frame c)) (stored (ringAt p c))) (λ c h. pushed-stored (p .settings) (ringAt p c) (ringAt r c) (levelOf (partOf samples frame c)) on (good .each c h) (done .done c h))
+        view-of (λ c. push (capacityOf (p .settings)) (frameRecord (partOf samples frame c)) (stored (ringAt p c))) (λ c h. pushed-stored (p .settings) (ringAt p c) (ringAt r c) (frameRecord (partOf samples frame c)) on (good .each c h) (done .done c h))
         ∙ (λ i. record { settings = p .settings; rings = sym (entered-rings p samples frame) i });
   }
 
@@ -180,7 +180,7 @@ made-fresh channels s ring good low high e =
 pub off-same : (p : ClippingPredictor) (samples : ℕ) (frame : List Float) → Good p → p .settings .enabled ≡ false → viewOf p ≡ enteredIf true samples frame (viewOf p)
 unfolding viewOf
 off-same p samples frame good e =
-    let f : ℕ → Level = λ c. levelOf (partOf samples frame c) in
+    let f : ℕ → Level = λ c. frameRecord (partOf samples frame c) in
     let g : ℕ → List Level = λ c. stored (ringAt p c) in
     let none-kept : (c : ℕ) → push (capacityOf (p .settings)) (f c) (g c) ≡ none = λ c. ap (λ (b : Bool). push (capacityIf b (p .settings .delay + p .settings .reference)) (f c) (g c)) e in
     λ i. record {

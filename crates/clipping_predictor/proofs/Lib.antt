@@ -7,6 +7,5 @@ pub mod Joins
 pub mod Rings
 pub mod Drops
 pub mod Ceilings
-pub mod Starred
 pub mod Newest
 pub mod Says

@@ -3,9 +3,8 @@ use mathlib.Core.Path.{_≡_, refl, ap}
 use mathlib.Core.Bool.{Bool}
 use mathlib.Core.Option.{Option, none, some}
 use lib.IntN.{ℤ}
-use Rattle.numbers.specs.Said.{Said, accepted, refused}
-use Rattle.numbers.proofs.Said.{fixed, causeOf, cause-back}
-use Rattle.clipping_predictor.specs.declared.settings.Settings.{Settings}
+use Rattle.numbers.specs.Said.{Said}
+use Rattle.numbers.proofs.Said.{fixed, cause-back, answerOf}
 use Rattle.clipping_predictor.specs.declared.settings.Checked.{Checked}
 use Rattle.clipping_predictor.specs.declared.settings.Checked.the-variants as Checked
 use Rattle.clipping_predictor.specs.declared.Estimate.{Estimate}
@@ -13,24 +12,19 @@ use Rattle.clipping_predictor.specs.declared.Estimate.the-variants as Es
 use Rattle.clipping_predictor.specs.Settings.{checkedSays}
 use Rattle.clipping_predictor.specs.Predictor.{DropAndMark, estimateSays}
 
-abbrev checkedOf : Said Settings → Checked
-checkedOf (accepted s) = Checked.InOrder s
-checkedOf (refused number) = Checked.Refused (causeOf number)
-
-checked-back : (c : Checked) → checkedOf (checkedSays c) ≡ c
+checked-back : (c : Checked) → answerOf Checked.InOrder Checked.Refused (checkedSays c) ≡ c
 checked-back (Checked.InOrder s) = refl
 checked-back (Checked.Refused cause) = ap Checked.Refused (cause-back cause)
 
 pub checked-fixed : (a b : Checked) → checkedSays a ≡ checkedSays b → a ≡ b
-checked-fixed = fixed checkedSays checkedOf checked-back
+checked-fixed = fixed checkedSays (answerOf Checked.InOrder Checked.Refused) checked-back
 
 abbrev dropOf : Option ℤ → Bool → Estimate
 dropOf (some drop) near = Estimate.Drop drop near
 dropOf none near = Estimate.Nothing near
 
 abbrev estimateFrom : Said DropAndMark → Estimate
-estimateFrom (accepted e) = dropOf (e .drop) (e .near)
-estimateFrom (refused number) = Estimate.Refused (causeOf number)
+estimateFrom = answerOf (λ (e : DropAndMark). dropOf (e .drop) (e .near)) Estimate.Refused
 
 estimate-back : (e : Estimate) → estimateFrom (estimateSays e) ≡ e
 estimate-back (Estimate.Drop drop near) = refl

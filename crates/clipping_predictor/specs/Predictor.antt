@@ -20,7 +20,7 @@ use Rattle.numbers.specs.Refusal.{numberOf}
 use Rattle.numbers.specs.Said.{Said, accepted, refused, outcomeSays}
 use Rattle.clipping_predictor_level_buffer.specs.declared.level.Level.{Level}
 use Rattle.clipping_predictor_level_buffer.specs.declared.ClippingPredictorLevelBuffer.{ClippingPredictorLevelBuffer}
-use Rattle.clipping_predictor_level_buffer.specs.Level.{maxSamplesPerChannel, levelOf}
+use Rattle.clipping_predictor_level_buffer.specs.Level.{maxSamplesPerChannel, frameRecord}
 use Rattle.clipping_predictor_level_buffer.specs.Ring.{stored, push}
 use Rattle.clipping_predictor.specs.declared.settings.ClippingPredictorMode.the-variants.{AdaptiveStepClippingPeakPrediction}
 use Rattle.clipping_predictor.specs.declared.settings.ClippingPredictorConfig.{ClippingPredictorConfig}
@@ -115,7 +115,7 @@ abbrev pub partOf : ℕ → List Float → ℕ → List Float
 partOf samples frame channel = take samples (drop (channel * samples) frame)
 
 abbrev pub levelsOf : ℕ → ℕ → List Float → List Level
-levelsOf channels samples frame = listed (λ c. levelOf (partOf samples frame c)) channels
+levelsOf channels samples frame = listed (λ c. frameRecord (partOf samples frame c)) channels
 
 -- each channel's level enters its ring
 unfoldable pub pushEach : ℕ → List Level → List (List Level) → List (List Level)

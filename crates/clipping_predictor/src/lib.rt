@@ -4,7 +4,7 @@ ghost use mathlib.Core.Path.{_≡_};
 ghost use mathlib.Core.Bool.{true};
 ghost use Prim.Native.Nat.{_*_, _≤_};
 ghost use lib.ListN.{length};
-ghost use Rattle.clipping_predictor_level_buffer.specs.Level.{maxSamplesPerChannel, levelOf};
+ghost use Rattle.clipping_predictor_level_buffer.specs.Level.{maxSamplesPerChannel, frameRecord};
 ghost use Rattle.clipping_predictor_level_buffer.specs.Ring.{Pushed};
 ghost use Rattle.clipping_predictor_level_buffer.specs.Ring.{Good as GoodRing};
 ghost use Rattle.clipping_predictor.specs.Settings.{Good as GoodSettings};
@@ -33,7 +33,6 @@ pub mod settings;
 pub const MAX_CHANNELS: usize = 8;
 
 // One ring for each channel; those past the channel count are not used.
-#[repr(C)]
 pub struct ClippingPredictor {
     pub rings: [ClippingPredictorLevelBuffer; MAX_CHANNELS],
     pub channels: usize,
@@ -124,7 +123,7 @@ pub fn create_clipping_predictor(num_channels: i32, config: ClippingPredictorCon
 // A channel's level enters its ring.
 fn pushed(ring: ClippingPredictorLevelBuffer, part: &[f32]) -> ClippingPredictorLevelBuffer
     requires { ⌜ GoodRing ring × (1 ≤ length (now part)) × (length (now part) ≤ maxSamplesPerChannel) ⌝ }
-    ensures { λ r. ⌜ Pushed ring (levelOf (now (part .entry))) r ⌝ }
+    ensures { λ r. ⌜ Pushed ring (frameRecord (now (part .entry))) r ⌝ }
 {
     let measured = clipping_predictor_level_buffer::level::measure(part);
     match measured {

@@ -9,7 +9,7 @@ use Rattle.levels.specs.FloatParts.{magnitudeOf}
 use Rattle.clipping_predictor_level_buffer.specs.declared.level.Level.{Level}
 use Rattle.clipping_predictor_level_buffer.specs.declared.Metrics.the-variants.{Missing, Found}
 use Rattle.clipping_predictor_level_buffer.specs.Statistics.{sum, mean, largest}
-use Rattle.clipping_predictor_level_buffer.specs.Level.{levelOf}
+use Rattle.clipping_predictor_level_buffer.specs.Level.{frameRecord}
 use Rattle.clipping_predictor_level_buffer.specs.Metrics.{metricsOver, partialMetrics, computePartialMetrics}
 
 -- "Stored 9, delay 5, items 5: none"
@@ -35,16 +35,16 @@ unfolding computePartialMetrics partialMetrics metricsOver mean sum largest add 
 ten-alike = refl
 
 -- 3 and -4: the mean of 9 and 16 is 12.5, the peak 4
-pub worked : levelOf (three ∷ fin true 1 (pos 2) ∷ []) ≡ record { average = fin false 25 (negsuc 0); max = fin false 1 (pos 2) }
-unfolding levelOf mean sum largest magnitudeOf add mul div lt ofInt
+pub worked : frameRecord (three ∷ fin true 1 (pos 2) ∷ []) ≡ record { average = fin false 25 (negsuc 0); max = fin false 1 (pos 2) }
+unfolding frameRecord mean sum largest magnitudeOf add mul div lt ofInt
 worked = refl
 
 -- a sample that is not a number spoils the mean and is passed over in the peak
-pub broken : levelOf (three ∷ nan ∷ fin true 1 (pos 2) ∷ []) ≡ record { average = nan; max = fin false 1 (pos 2) }
-unfolding levelOf mean sum largest magnitudeOf add mul div lt ofInt
+pub broken : frameRecord (three ∷ nan ∷ fin true 1 (pos 2) ∷ []) ≡ record { average = nan; max = fin false 1 (pos 2) }
+unfolding frameRecord mean sum largest magnitudeOf add mul div lt ofInt
 broken = refl
 
 -- a frame of minus zeros has the peak plus zero
-pub minus-zero : levelOf (fin true 0 (pos 0) ∷ []) ≡ record { average = fin false 0 (pos 0); max = fin false 0 (pos 0) }
-unfolding levelOf mean sum largest magnitudeOf add mul div lt ofInt
+pub minus-zero : frameRecord (fin true 0 (pos 0) ∷ []) ≡ record { average = fin false 0 (pos 0); max = fin false 0 (pos 0) }
+unfolding frameRecord mean sum largest magnitudeOf add mul div lt ofInt
 minus-zero = refl

@@ -23,9 +23,9 @@ maxSamplesPerChannel = 480
 abbrev pub squareOf : Float → Float
 squareOf x = mul binary32 x x
 
--- the level of a frame, by the source's `analyze`
-unfoldable pub levelOf : List Float → Level
-levelOf samples = record { average = mean (map squareOf samples); max = largest (map magnitudeOf samples) }
+-- "Each frame and channel yields a record of two floats, mean square and peak": the source's `Level`, by its `analyze`
+unfoldable pub frameRecord : List Float → Level
+frameRecord samples = record { average = mean (map squareOf samples); max = largest (map magnitudeOf samples) }
 
 -- document 01's number and values for each case of the answer
 abbrev pub measuredSays : Measured → Said Level
@@ -33,7 +33,7 @@ measuredSays (Measured.the-variants.Level level) = accepted level
 measuredSays (Refused cause) = refused (numberOf cause)
 
 abbrev pub measuredIf : Bool → List Float → Measured
-measuredIf true samples = Measured.the-variants.Level (levelOf samples)
+measuredIf true samples = Measured.the-variants.Level (frameRecord samples)
 measuredIf false samples = Refused FrameSize
 
 unfoldable pub measureOf : List Float → Measured

@@ -3,6 +3,7 @@
 use mathlib.Core.Path.{_≡_}
 use mathlib.Core.Bool.{Bool, true, false}
 use mathlib.Core.List.{List, [], _∷_}
+use mathlib.Core.Option.{Option, none, some}
 use Prim.Native.Nat.{ℕ, zero, suc, _+_, _-_, _≤_, _<_}
 use lib.Dec.{leb, ltb}
 use lib.Ieee.{nan}
@@ -59,6 +60,11 @@ placed places c t i = getD places (behind c t i) noLevel
 -- the stored records, newest first
 unfoldable pub stored : ClippingPredictorLevelBuffer → List Level
 stored r = listed (placed (r .data) (r .capacity) (r .tail)) (r .size)
+
+-- document 01's value for each case of the answer: a record, or none
+abbrev pub storedSays : Stored → Option Level
+storedSays (Record l) = some l
+storedSays Missing = none
 
 -- one of them, 0 being the newest
 unfoldable pub storedAt : List Level → ℕ → Stored

@@ -2,7 +2,7 @@
 ghost use mathlib.Core.Path.{_≡_};
 ghost use Prim.Native.Nat.{_≤_};
 ghost use lib.ListN.{length};
-ghost use Rattle.clipping_predictor_level_buffer.specs.Level.{maxSamplesPerChannel, levelOf, measuredSays, measureOf};
+ghost use Rattle.clipping_predictor_level_buffer.specs.Level.{maxSamplesPerChannel, frameRecord, measuredSays, measureOf};
 ghost use Rattle.clipping_predictor_level_buffer.specs.Running.{largestPart, withFour, Reached, Passed};
 use numbers::refusal::Refusal;
 
@@ -105,10 +105,10 @@ fn one_by_one(samples: &[f32], from: Running) -> Running
     Running { at, sum, peak }
 }
 
-// The level of a frame whose samples are few enough to be counted in a u16.
-fn level_of(samples: &[f32]) -> Level
+// The record of a frame whose samples are few enough to be counted in a u16.
+fn frame_record(samples: &[f32]) -> Level
     requires { ⌜ length (now samples) ≤ maxSamplesPerChannel ⌝ }
-    ensures { λ r. ⌜ r ≡ levelOf (now (samples .entry)) ⌝ }
+    ensures { λ r. ⌜ r ≡ frameRecord (now (samples .entry)) ⌝ }
 {
     let all = one_by_one(samples, by_fours(samples));
     let count = samples.len() as u16;
@@ -127,5 +127,5 @@ pub fn measure(samples: &[f32]) -> Measured
     if MAX_SAMPLES_PER_CHANNEL < samples.len() {
         return Measured::Refused(Refusal::FrameSize);
     }
-    Measured::Level(level_of(samples))
+    Measured::Level(frame_record(samples))
 }

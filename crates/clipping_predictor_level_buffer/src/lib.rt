@@ -5,7 +5,7 @@ ghost use Prim.Native.Nat.{_+_, _≤_, _<_, min};
 ghost use lib.IntN.{pos};
 ghost use lib.ListN.{length, take, drop};
 ghost use Rattle.clipping_predictor_level_buffer.specs.Statistics.{larger};
-ghost use Rattle.clipping_predictor_level_buffer.specs.Ring.{maxCapacity, Capacity, Good, behind, after, stored, storedAt, Emptied, Pushed};
+ghost use Rattle.clipping_predictor_level_buffer.specs.Ring.{maxCapacity, Capacity, Good, behind, after, stored, storedSays, storedAt, Emptied, Pushed};
 ghost use Rattle.clipping_predictor_level_buffer.specs.Making.{MadeOf};
 ghost use Rattle.clipping_predictor_level_buffer.specs.Metrics.{metricsOver, metricsSays, partialMetrics, computePartialMetrics};
 use crate::level::Level;
@@ -160,7 +160,7 @@ impl ClippingPredictorLevelBuffer {
     // The i-th record, counted from the newest as 0.
     pub fn stored_at(self, i: usize) -> Stored
         requires { ⌜ Good self ⌝ }
-        ensures { λ r. ⌜ r ≡ storedAt (stored self) i ⌝ }
+        ensures { λ r. ⌜ storedSays r ≡ storedSays (storedAt (stored self) i) ⌝ }
     {
         if self.size <= i {
             return Stored::Missing;

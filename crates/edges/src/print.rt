@@ -1,8 +1,23 @@
 // Writing one line for each case: its name, what was seen, and whether that is right.
+use crate::number::NONE;
 use libc::STDOUT_FILENO;
+
+// The column in which a name starts.
+const NAME: usize = 14;
 
 fn text(s: &[u8]) {
     io::write_all(STDOUT_FILENO, s);
+}
+
+fn number(x: i32) {
+    if x == NONE {
+        text(b"none");
+        return;
+    }
+    if x < 0 {
+        text(b"-");
+    }
+    io::print_decimal(STDOUT_FILENO, numbers::sign::size(x) as u64);
 }
 
 fn verdict(right: bool) {
@@ -13,35 +28,13 @@ fn verdict(right: bool) {
     }
 }
 
-// A number with its sign.
-pub fn line(name: &[u8], seen: i32, expected: i32) {
-    text(name);
-    text(b": ");
-    if seen < 0 {
-        text(b"-");
+// The line of a step, which holds its name.
+pub fn seen(s: &[u8], seen: i32, expected: i32) {
+    if s.len() <= NAME {
+        return;
     }
-    io::print_decimal(STDOUT_FILENO, numbers::sign::size(seen) as u64);
-    verdict(seen == expected);
-}
-
-// Where there is no number; some cases expect that.
-pub fn none(name: &[u8], right: bool) {
-    text(name);
-    text(b": none");
-    verdict(right);
-}
-
-// What the machine refuses is no part of any case.
-pub fn refused(name: &[u8]) {
-    text(name);
-    text(b": refused");
-    verdict(false);
-}
-
-// A number where none is expected.
-pub fn needless(name: &[u8], seen: i32) {
-    text(name);
+    text(&s[NAME..]);
     text(b": ");
-    io::print_decimal(STDOUT_FILENO, numbers::sign::size(seen) as u64);
-    verdict(false);
+    number(seen);
+    verdict(seen == expected);
 }

@@ -18,12 +18,11 @@ use Rattle.input_volume_controller.specs.declared.InputVolumeController.{InputV
 use Rattle.input_volume_controller.specs.Controller.{Controller, viewOf, Good}
 use Rattle.input_volume_controller.specs.Reply.{Reply, mark, refusal, analysisSays}
 use Rattle.input_volume_controller.specs.Calls.{Call, frame, recommendation, step, AnalyzedOf}
-use Rattle.frame_lines.specs.declared.line.SpeechLevel as Line
 use Rattle.frame_lines.specs.declared.answer.Reply.the-variants.{Refused}
 use Rattle.frame_lines.specs.Line.{Fields, meaning}
 use Rattle.frame_lines.proofs.Meanings.{FrameOf}
 use Rattle.frame_answers.specs.declared.answers.Answered.{Answered}
-use Rattle.frame_answers.specs.LineStep.{levelFor, frameCall, recommendationCall, LineStep, refusedLine, recommendedLine, afterFrame, meantStep, lineStep}
+use Rattle.frame_answers.specs.LineStep.{frameCall, recommendationCall, LineStep, refusedLine, recommendedLine, afterFrame, meantStep, lineStep}
 use Rattle.frame_answers.specs.Answered.{Leads, AnsweredAs, VolumePending, RecommendedAs}
 use Rattle.frame_answers.proofs.Recommended.{frame-pending}
 
@@ -54,7 +53,7 @@ malformed-as self line good e = record {
   same = λ cause q. refl;
 }
 
-module _ (self : InputVolumeController) (line : List ℕ) (after : List Float) (v : ℕ) (p : Float) (l : Line.SpeechLevel) (n : ℕ) (f : FrameOf line after v p l n) (z : ℤ) (e : z ≡ pos v)
+module _ (self : InputVolumeController) (line : List ℕ) (after : List Float) (v : ℕ) (p : Float) (l : SpeechLevel) (n : ℕ) (f : FrameOf line after v p l n) (z : ℤ) (e : z ≡ pos v)
     (a : Analyzed) (h : AnalyzedOf self z n (take n after) a) where
   call-is : frame z n (take n after) ≡ frameCall (f .meant)
   call-is = λ i. frame ((e ∙ ap pos (f .volume-is)) i) (f .count-is i) (f .samples-are i)
@@ -78,10 +77,10 @@ module _ (self : InputVolumeController) (line : List ℕ) (after : List Float) (
         subst VolumePending (sym (h .does .view))
         (frame-pending (viewOf self) z n (take n after) near (sym (h .does .reply) ∙ ap analysisSays q))
 
-    pub accepted-as : (level : SpeechLevel) → level ≡ levelFor l → (r : Answered) → RecommendedAs (a .controller) near p level r → AnsweredAs self line r
-    accepted-as level k r m = record {
+    pub accepted-as : (r : Answered) → RecommendedAs (a .controller) near p l r → AnsweredAs self line r
+    accepted-as r m = record {
       leads = leads-as _ _ r
-          ((λ i. recommendedLine near (step (state-is i) (recommendation (f .probability-is i) ((k ∙ ap levelFor (f .level-is)) i))))
+          ((λ i. recommendedLine near (step (state-is i) (recommendation (f .probability-is i) (f .level-is i))))
           ∙ sym (line-marked (viewOf self) line (f .meant) (f .means) near (says (Analysis.Accepted near) q)))
           (m .leads);
       same = λ cause x. absurd (m .accepted cause x);

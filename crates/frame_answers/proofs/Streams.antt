@@ -14,7 +14,7 @@ use Rattle.input_volume_controller.specs.Controller as Controller
 use Rattle.frame_lines.specs.declared.answer.Reply.{Reply}
 use Rattle.frame_lines.specs.declared.answer.Reply.the-variants.{Volume, Refused}
 use Rattle.frame_lines.specs.declared.answer.Text.{Text}
-use Rattle.frame_lines.specs.declared.lines.Pending.{Pending}
+use Rattle.frame_lines.specs.declared.lines.Begun.{Begun}
 use Rattle.frame_lines.specs.Answer.{answerOf, held}
 use Rattle.frame_lines.specs.Stream.{keptCharacters, cut, ended, begun, lastLine}
 use Rattle.frame_lines.specs.Feeds.{kept, Keeps}
@@ -30,33 +30,33 @@ use Rattle.frame_answers.specs.Stream.{State, viewOf, Good, Becomes, fre
 use Rattle.frame_answers.proofs.InTwo.{cut-step}
 use Rattle.frame_answers.proofs.Turns.{text-fits}
 
-nothing-ends : (p : Pending) → kept p ≡ [] → ended (kept p) ≡ []
+nothing-ends : (p : Begun) → kept p ≡ [] → ended (kept p) ≡ []
 unfolding ended
 nothing-ends p e = ap ended e
 
 -- ---- a fresh stream
 
-pub starts-fresh : (z : ℤ) (config : Config) (m : Created) (p : Pending) → CreatedOf z config m → config ≡ defaults → Keeps [] p → z ≡ pos 1 → Becomes freshState (record { controller = m .controller; pending = p })
+pub starts-fresh : (z : ℤ) (config : Config) (m : Created) (p : Begun) → CreatedOf z config m → config ≡ defaults → Keeps [] p → z ≡ pos 1 → Becomes freshState (record { controller = m .controller; begun = p })
 unfolding startController
 starts-fresh z config m p c d k e = record {
-  good = record { controller = c .good; pending = k .good; unended = nothing-ends p (k .kept-is) };
+  good = record { controller = c .good; begun = k .good; unended = nothing-ends p (k .kept-is) };
   is = λ i. record { controller = (c .view ∙ (λ j. makingOf (e j) (d j) .controller)) i; kept = k .kept-is i };
 }
 
 -- ---- the rest of a piece is kept
 
-pub keeps-part : (s : Stream) → Good s → (part : List ℕ) → ended (kept (s .pending) ++ part) ≡ [] → (p : Pending) → Keeps (cut (kept (s .pending) ++ part)) p
-    → Becomes (afterPiece (viewOf s) part) (record { controller = s .controller; pending = p })
+pub keeps-part : (s : Stream) → Good s → (part : List ℕ) → ended (kept (s .begun) ++ part) ≡ [] → (p : Begun) → Keeps (cut (kept (s .begun) ++ part)) p
+    → Becomes (afterPiece (viewOf s) part) (record { controller = s .controller; begun = p })
 unfolding afterPiece afterLines
 keeps-part s good part none p k = record {
   good = record {
     controller = good .controller;
-    pending = k .good;
-    unended = ap ended (k .kept-is) ∙ ended-take keptCharacters (kept (s .pending) ++ part) none;
+    begun = k .good;
+    unended = ap ended (k .kept-is) ∙ ended-take keptCharacters (kept (s .begun) ++ part) none;
   };
   is = λ i. record {
     controller = afterLines (viewOf s .controller) (sym none i);
-    kept = (k .kept-is ∙ ap cut (sym (begun-all (kept (s .pending) ++ part) none))) i;
+    kept = (k .kept-is ∙ ap cut (sym (begun-all (kept (s .begun) ++ part) none))) i;
   };
 }
 
@@ -74,27 +74,27 @@ text-of c line a h t e = e ∙ ap held (says-text (a .reply) ∙ ap textOf (h .l
 
 module _ (s : Stream) (good : Good s) where
   -- none was begun before
-  pub ends-within : s .pending .length ≡ 0 → (part : List ℕ) (a : Answered) → AnsweredAs (s .controller) part a → (t : Text) → t ≡ held (answerOf (a .reply))
-      → EndedAs (viewOf s) part (record { stream = record { controller = a .controller; pending = s .pending }; text = t })
+  pub ends-within : s .begun .length ≡ 0 → (part : List ℕ) (a : Answered) → AnsweredAs (s .controller) part a → (t : Text) → t ≡ held (answerOf (a .reply))
+      → EndedAs (viewOf s) part (record { stream = record { controller = a .controller; begun = s .begun }; text = t })
   ends-within e part a h t k =
-      let none : kept (s .pending) ≡ [] = ap (λ (n : ℕ). take n (s .pending .bytes)) e in
-      let same : lineStep (viewOf s .controller) part ≡ lineStep (viewOf s .controller) (kept (s .pending) ++ part) = ap (λ (l : List ℕ). lineStep (viewOf s .controller) (l ++ part)) (sym none) in
+      let none : kept (s .begun) ≡ [] = ap (λ (n : ℕ). take n (s .begun .bytes)) e in
+      let same : lineStep (viewOf s .controller) part ≡ lineStep (viewOf s .controller) (kept (s .begun) ++ part) = ap (λ (l : List ℕ). lineStep (viewOf s .controller) (l ++ part)) (sym none) in
       record {
         stream = record {
-          good = record { controller = h .leads .good; pending = good .pending; unended = good .unended };
+          good = record { controller = h .leads .good; begun = good .begun; unended = good .unended };
           is = λ i. record { controller = (h .leads .view ∙ ap (λ (x : LineStep). x .state) same) i; kept = none i };
         };
         text = text-of (s .controller) part a h t k ∙ ap (λ (x : LineStep). held (textOf (x .answer))) same;
       }
 
   -- one was: what was kept of it, and the part
-  pub ends-begun : (part : List ℕ) (w : Pending) → Keeps (cut (kept (s .pending) ++ part)) w → (a : Answered) → AnsweredAs (s .controller) (kept w) a
-      → (p : Pending) → Keeps [] p → (t : Text) → t ≡ held (answerOf (a .reply)) → EndedAs (viewOf s) part (record { stream = record { controller = a .controller; pending = p }; text = t })
+  pub ends-begun : (part : List ℕ) (w : Begun) → Keeps (cut (kept (s .begun) ++ part)) w → (a : Answered) → AnsweredAs (s .controller) (kept w) a
+      → (p : Begun) → Keeps [] p → (t : Text) → t ≡ held (answerOf (a .reply)) → EndedAs (viewOf s) part (record { stream = record { controller = a .controller; begun = p }; text = t })
   ends-begun part w k a h p c t q =
-      let same : lineStep (viewOf s .controller) (kept w) ≡ lineStep (viewOf s .controller) (kept (s .pending) ++ part) = ap (lineStep (viewOf s .controller)) (k .kept-is) ∙ cut-step (viewOf s .controller) (kept (s .pending) ++ part) in
+      let same : lineStep (viewOf s .controller) (kept w) ≡ lineStep (viewOf s .controller) (kept (s .begun) ++ part) = ap (lineStep (viewOf s .controller)) (k .kept-is) ∙ cut-step (viewOf s .controller) (kept (s .begun) ++ part) in
       record {
         stream = record {
-          good = record { controller = h .leads .good; pending = c .good; unended = nothing-ends p (c .kept-is) };
+          good = record { controller = h .leads .good; begun = c .good; unended = nothing-ends p (c .kept-is) };
           is = λ i. record { controller = (h .leads .view ∙ ap (λ (x : LineStep). x .state) same) i; kept = c .kept-is i };
         };
         text = text-of (s .controller) (kept w) a h t q ∙ ap (λ (x : LineStep). held (textOf (x .answer))) same;
@@ -102,16 +102,16 @@ module _ (s : Stream) (good : Good s) where
 
 -- ---- the end of the input
 
-pub nothing-left : (s : Stream) → s .pending .length ≡ 0 → record { bytes = 0 ∷ 0 ∷ 0 ∷ 0 ∷ 0 ∷ []; length = 0 } ≡ held (finishedText (viewOf s))
+pub nothing-left : (s : Stream) → s .begun .length ≡ 0 → record { bytes = 0 ∷ 0 ∷ 0 ∷ 0 ∷ 0 ∷ []; length = 0 } ≡ held (finishedText (viewOf s))
 unfolding finishedText textOfLines
-nothing-left s e = ap (λ (lines : List (List ℕ)). held (textOfLines (viewOf s .controller) lines)) (sym (last-none (s .pending) e))
+nothing-left s e = ap (λ (lines : List (List ℕ)). held (textOfLines (viewOf s .controller) lines)) (sym (last-none (s .begun) e))
 
-pub line-left : (s : Stream) → Good s → (s .pending .length ≡ 0 → ⊥) → (a : Answered) → AnsweredAs (s .controller) (kept (s .pending)) a → (t : Text) → t ≡ held (answerOf (a .reply)) → t ≡ held (finishedText (viewOf s))
+pub line-left : (s : Stream) → Good s → (s .begun .length ≡ 0 → ⊥) → (a : Answered) → AnsweredAs (s .controller) (kept (s .begun)) a → (t : Text) → t ≡ held (answerOf (a .reply)) → t ≡ held (finishedText (viewOf s))
 unfolding finishedText textOfLines
 line-left s good more a h t k =
-    text-of (s .controller) (kept (s .pending)) a h t k
-    ∙ ap held (sym (append-nil (textOf (lineStep (viewOf s .controller) (kept (s .pending)) .answer))))
-    ∙ ap (λ (lines : List (List ℕ)). held (textOfLines (viewOf s .controller) lines)) (sym (last-one (s .pending) (good .pending) (omega arith)))
+    text-of (s .controller) (kept (s .begun)) a h t k
+    ∙ ap held (sym (append-nil (textOf (lineStep (viewOf s .controller) (kept (s .begun)) .answer))))
+    ∙ ap (λ (lines : List (List ℕ)). held (textOfLines (viewOf s .controller) lines)) (sym (last-one (s .begun) (good .begun) (omega arith)))
 
 -- what is left is answered by one line at most
 left-fits : (c : Controller.Controller) (l : List ℕ) → Fitting (textOfLines c (lastLine l))

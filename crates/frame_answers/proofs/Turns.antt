@@ -35,13 +35,13 @@ text-fits (refused n) = number-fits (ltb n 10) n
 -- ---- a stream in good order that nothing is fed
 
 module _ (s : Stream) (good : Good s) where
-  all-kept : cut (kept (s .pending)) ≡ kept (s .pending)
-  all-kept = take-all keptCharacters (kept (s .pending)) (omega (arith, length-take-le (s .pending .length) (s .pending .bytes) (omega (arith, good .pending .within, good .pending .places)), good .pending .within))
+  all-kept : cut (kept (s .begun)) ≡ kept (s .begun)
+  all-kept = take-all keptCharacters (kept (s .begun)) (omega (arith, length-take-le (s .begun .length) (s .begun .bytes) (omega (arith, good .begun .within, good .begun .places)), good .begun .within))
 
   pub after-none : afterPiece (viewOf s) [] ≡ viewOf s
   unfolding afterPiece afterLines
   after-none =
-      let k = kept (s .pending) in
+      let k = kept (s .begun) in
       let e : ended (k ++ []) ≡ [] = ap ended (append-nil k) ∙ good .unended in
       let b : cut (begun (k ++ [])) ≡ k = ap (λ (l : List ℕ). cut (begun l)) (append-nil k) ∙ ap cut (begun-all k (good .unended)) ∙ all-kept in
       λ i. record { controller = afterLines (viewOf s .controller) (e i); kept = b i }
@@ -161,7 +161,7 @@ module _ (piece out₀ : List ℕ) where
       first = first-line (drop at piece) (e - at) (found-if at e (firstFeed (drop at piece)) found)
 
       pub found-at : (at ≤ e) × (e < length piece)
-      found-at = let f = line-found (kept (s .pending)) piece at (h .becomes .good .unended) e found in (f .least, f .within)
+      found-at = let f = line-found (kept (s .begun)) piece at (h .becomes .good .unended) e found in (f .least, f .within)
 
       next : take (e + 1) piece ≡ take at piece ++ take (suc n) (drop at piece)
       next = let k : e + 1 ≡ at + suc (e - at) = omega (arith, found-at .0) in ap (λ (m : ℕ). take m piece) k ∙ take-add at (suc (e - at)) piece
@@ -245,8 +245,8 @@ module _ (piece out₀ : List ℕ) where
 
     -- no line feed was found: what is left is kept
     module _ (lost : feedFrom piece at ≡ Nowhere) (more : 0 < room) where
-      pub none-ends : ended (kept (s .pending) ++ drop at piece) ≡ []
-      none-ends = no-line-ends (kept (s .pending)) piece at (h .becomes .good .unended) lost
+      pub none-ends : ended (kept (s .begun) ++ drop at piece) ≡ []
+      none-ends = no-line-ends (kept (s .begun)) piece at (h .becomes .good .unended) lost
 
       all : take (length piece) piece ≡ take at piece ++ drop at piece
       all = take-length piece ∙ sym (take-append-drop at piece)

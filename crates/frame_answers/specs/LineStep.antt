@@ -7,29 +7,21 @@ use lib.IntN.{pos, natAbs}
 use lib.ListN.{length}
 use Rattle.numbers.specs.declared.refusal.Refusal.the-variants.{FrameLine}
 use Rattle.numbers.specs.Refusal.{numberOf}
-use Rattle.mono_input_volume_controller.specs.declared.speech_level.SpeechLevel.{SpeechLevel}
-use Rattle.mono_input_volume_controller.specs.declared.speech_level.SpeechLevel.the-variants.{Absent, Dbfs}
 use Rattle.input_volume_controller.specs.Controller.{Controller}
 use Rattle.input_volume_controller.specs.Reply.{Reply, mark, refusal, volume, done, Stepped}
 use Rattle.input_volume_controller.specs.Reply as Reply
 use Rattle.input_volume_controller.specs.Calls.{Call, frame, recommendation, step}
-use Rattle.frame_lines.specs.declared.line.SpeechLevel as Line
 use Rattle.frame_lines.specs.Line.{Fields, meaning}
 use Rattle.frame_lines.specs.Parsed.{floatOf, speechLevelOf, sampleOf}
 
 -- ---- the calls that a line makes
-
--- the line's speech level is the controller's
-abbrev pub levelFor : Line.SpeechLevel → SpeechLevel
-levelFor Line.the-variants.Absent = Absent
-levelFor (Line.the-variants.Dbfs dbfs) = Dbfs dbfs
 
 -- one channel: the frame has as many samples per channel as the line has samples
 abbrev pub frameCall : Fields → Call
 frameCall f = frame (pos (f .volume)) (length (f .samples)) (map sampleOf (f .samples))
 
 abbrev pub recommendationCall : Fields → Call
-recommendationCall f = recommendation (floatOf (f .probability)) (levelFor (speechLevelOf (f .level)))
+recommendationCall f = recommendation (floatOf (f .probability)) (speechLevelOf (f .level))
 
 -- ---- its answer
 

@@ -11,7 +11,7 @@ use Rattle.frame_lines.specs.Answer.{longest, held}
 use Rattle.frame_lines.specs.Lines.{isFeed}
 use Rattle.frame_lines.specs.Stream.{cut, ended, begun, lastLine}
 use Rattle.frame_lines.specs.Feeds.{kept}
-use Rattle.frame_lines.specs.Feeds as Pending
+use Rattle.frame_lines.specs.Feeds as Begun
 use Rattle.frame_answers.specs.declared.stream.Stream.{Stream}
 use Rattle.frame_answers.specs.declared.stream.Fed.{Fed}
 use Rattle.frame_answers.specs.declared.stream.Ended.{Ended}
@@ -26,13 +26,13 @@ pub record State : Type 0 where
   pub kept : List ℕ
 
 abbrev pub viewOf : Stream → State
-viewOf s = record { controller = Controller.viewOf (s .controller); kept = kept (s .pending) }
+viewOf s = record { controller = Controller.viewOf (s .controller); kept = kept (s .begun) }
 
 -- good order: no line ends in what is kept
 pub record Good (s : Stream) : Type 0 where
   pub controller : Controller.Good (s .controller)
-  pub pending : Pending.Good (s .pending)
-  pub unended : ended (kept (s .pending)) ≡ []
+  pub begun : Begun.Good (s .begun)
+  pub unended : ended (kept (s .begun)) ≡ []
 
 -- what a call hands back: the stream that the definition says, in good order
 pub record Becomes (said : State) (r : Stream) : Type 0 where

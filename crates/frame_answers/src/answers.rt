@@ -1,7 +1,5 @@
 // A line with a controller: its frame, and the recommendation that follows an accepted frame.
-ghost use mathlib.Core.Path.{_≡_};
 ghost use Rattle.input_volume_controller.specs.Controller.{Good, viewOf};
-ghost use Rattle.frame_answers.specs.LineStep.{levelFor};
 ghost use Rattle.frame_answers.specs.Answered.{RecommendedAs, AnsweredAs, VolumePending};
 use frame_lines::answer::Reply;
 use frame_lines::line::MOST_SAMPLES;
@@ -17,16 +15,6 @@ use numbers::refusal::Refusal;
 pub struct Answered {
     pub reply: Reply,
     pub controller: InputVolumeController,
-}
-
-// The line's speech level as the controller's.
-fn level_for(level: frame_lines::line::SpeechLevel) -> SpeechLevel
-    ensures { λ r. ⌜ r ≡ levelFor level ⌝ }
-{
-    match level {
-        frame_lines::line::SpeechLevel::Absent => SpeechLevel::Absent,
-        frame_lines::line::SpeechLevel::Dbfs(dbfs) => SpeechLevel::Dbfs(dbfs),
-    }
 }
 
 // The recommendation after a frame, beside that frame's mark. With a volume pending there always is one.
@@ -75,6 +63,6 @@ pub fn answer_line(controller: InputVolumeController, line: &[u8]) -> Answered
             reply: Reply::Refused(cause),
             controller: next,
         },
-        Analysis::Accepted(near) => recommended(next, near, probability, level_for(level)),
+        Analysis::Accepted(near) => recommended(next, near, probability, level),
     }
 }

@@ -12,15 +12,15 @@ use crate::answers::answer_line;
 use frame_lines::answer::LONGEST;
 use frame_lines::answer::Text;
 use frame_lines::answer::answer;
+use frame_lines::lines::Begun;
 use frame_lines::lines::Feed;
-use frame_lines::lines::Pending;
 use frame_lines::lines::next_feed;
 use input_volume_controller::InputVolumeController;
 use mono_input_volume_controller::config::default_config;
 
 pub struct Stream {
     pub controller: InputVolumeController,
-    pub pending: Pending,
+    pub begun: Begun,
 }
 
 // What a piece leads to: the stream after it, how much of the piece is used, and how many bytes of answers were put.
@@ -56,7 +56,7 @@ impl Stream {
         let controller = made.controller;
         Stream {
             controller,
-            pending: Pending::new(),
+            begun: Begun::new(),
         }
     }
 
@@ -66,20 +66,20 @@ impl Stream {
         ensures { λ r. ⌜ EndedAs (viewOf self) (now (part .entry)) r ⌝ }
     {
         let controller = self.controller;
-        let pending = self.pending;
-        if pending.length == 0 {
+        let begun = self.begun;
+        if begun.length == 0 {
             let answered = answer_line(controller, part);
             let next = answered.controller;
             let reply = answered.reply;
             return Ended {
                 stream: Stream {
                     controller: next,
-                    pending,
+                    begun,
                 },
                 text: answer(reply),
             };
         }
-        let whole = pending.append(part);
+        let whole = begun.append(part);
         let n = whole.length;
         let bytes = whole.bytes;
         let answered = answer_line(controller, &bytes[..n]);
@@ -88,7 +88,7 @@ impl Stream {
         Ended {
             stream: Stream {
                 controller: next,
-                pending: whole.cleared(),
+                begun: whole.cleared(),
             },
             text: answer(reply),
         }
@@ -96,14 +96,14 @@ impl Stream {
 
     // No line ends in this part: it is kept.
     fn keeping(self, part: &[u8]) -> Stream
-        requires { ⌜ Good self × (ended (kept (self .pending) ++ now part) ≡ []) ⌝ }
+        requires { ⌜ Good self × (ended (kept (self .begun) ++ now part) ≡ []) ⌝ }
         ensures { λ r. ⌜ Becomes (afterPiece (viewOf self) (now (part .entry))) r ⌝ }
     {
         let controller = self.controller;
-        let pending = self.pending;
+        let begun = self.begun;
         Stream {
             controller,
-            pending: pending.append(part),
+            begun: begun.append(part),
         }
     }
 
@@ -145,16 +145,16 @@ impl Stream {
         requires { ⌜ Good self ⌝ }
         ensures { λ r. ⌜ r ≡ held (finishedText (viewOf self)) ⌝ }
     {
-        let pending = self.pending;
-        if pending.length == 0 {
+        let begun = self.begun;
+        if begun.length == 0 {
             return Text {
                 bytes: [0u8; LONGEST],
                 length: 0,
             };
         }
         let controller = self.controller;
-        let n = pending.length;
-        let bytes = pending.bytes;
+        let n = begun.length;
+        let bytes = begun.bytes;
         let answered = answer_line(controller, &bytes[..n]);
         let reply = answered.reply;
         answer(reply)

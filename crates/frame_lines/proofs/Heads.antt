@@ -11,8 +11,8 @@ use lib.Ieee.{Float}
 use lib.ListN.{length, getD, List·getD-eq-default}
 use borrow.Author.Tests.{eq-eqb, ne-eqb}
 use Rattle.numbers.proofs.Signs.{clash}
-use Rattle.frame_lines.specs.declared.line.SpeechLevel.{SpeechLevel}
-use Rattle.frame_lines.specs.declared.line.SpeechLevel.the-variants.{Absent, Dbfs}
+use Rattle.mono_input_volume_controller.specs.declared.speech_level.SpeechLevel.{SpeechLevel}
+use Rattle.mono_input_volume_controller.specs.declared.speech_level.SpeechLevel.the-variants.{Absent, Dbfs}
 use Rattle.frame_lines.specs.declared.line.Word as Word
 use Rattle.frame_lines.specs.declared.line.Word.{Word}
 use Rattle.frame_lines.specs.declared.line.Level as Level

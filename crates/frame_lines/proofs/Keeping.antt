@@ -6,7 +6,7 @@ use native.Mathlib.Omega.{arith}
 use native.Mathlib.Decide.{decLe}
 use lib.ListN.{length, take}
 use lib.Seq.{length-take-le, take-all, take-append-add, paste, length-paste, take-paste}
-use Rattle.frame_lines.specs.declared.lines.Pending.{Pending}
+use Rattle.frame_lines.specs.declared.lines.Begun.{Begun}
 use Rattle.frame_lines.specs.Stream.{keptCharacters, cut}
 use Rattle.frame_lines.specs.Feeds.{Good, kept, Keeps}
 
@@ -16,7 +16,7 @@ take-room s m n e = elim (decLe m (length s)) [
   | no h ↦ take-all n s (omega arith) ∙ sym (take-all m s (omega arith))
 ]
 
-module _ (p : Pending) (good : Good p) (part : List ℕ) (n : ℕ) (e : n ≡ min (length part) (keptCharacters - p .length)) where
+module _ (p : Begun) (good : Good p) (part : List ℕ) (n : ℕ) (e : n ≡ min (length part) (keptCharacters - p .length)) where
   held : length (kept p) ≡ p .length
   held = length-take-le (p .length) (p .bytes) (omega (arith, good .within, good .places))
 

@@ -6,7 +6,7 @@ use native.Mathlib.Nat.{not-suc-le-zero}
 use native.Mathlib.Omega.{arith}
 use lib.ListN.{length, take}
 use lib.Seq.{length-take-le}
-use Rattle.frame_lines.specs.declared.lines.Pending.{Pending}
+use Rattle.frame_lines.specs.declared.lines.Begun.{Begun}
 use Rattle.frame_lines.specs.Stream.{lastLine}
 use Rattle.frame_lines.specs.Feeds.{Good, kept}
 
@@ -14,8 +14,8 @@ one-line : (l : List ℕ) → 0 < length l → lastLine l ≡ l ∷ []
 one-line [] h = absurd (not-suc-le-zero h)
 one-line (b ∷ l) h = refl
 
-pub last-one : (p : Pending) → Good p → 0 < p .length → lastLine (kept p) ≡ kept p ∷ []
+pub last-one : (p : Begun) → Good p → 0 < p .length → lastLine (kept p) ≡ kept p ∷ []
 last-one p good h = one-line (kept p) (omega (arith, length-take-le (p .length) (p .bytes) (omega (arith, good .within, good .places))))
 
-pub last-none : (p : Pending) → p .length ≡ 0 → lastLine (kept p) ≡ []
+pub last-none : (p : Begun) → p .length ≡ 0 → lastLine (kept p) ≡ []
 last-none p e = ap (λ (n : ℕ). lastLine (take n (p .bytes))) e

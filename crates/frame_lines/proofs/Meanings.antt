@@ -12,7 +12,7 @@ use lib.Dec.{leb}
 use lib.ListN.{length, take, length-take, length-map, length-drop}
 use lib.Seq.{take-all}
 use borrow.Author.Tests.{lt-leb, leb-true}
-use Rattle.frame_lines.specs.declared.line.SpeechLevel.{SpeechLevel}
+use Rattle.mono_input_volume_controller.specs.declared.speech_level.SpeechLevel.{SpeechLevel}
 use Rattle.frame_lines.specs.declared.line.Parsed.the-variants.{Malformed, Frame}
 use Rattle.frame_lines.specs.Samples.{areSamples}
 use Rattle.frame_lines.specs.Line.{Fields, mostCharacters, mostSamples, isDashed, samplesStart, sampleText, headIsGood, isFramed, isWellFormed, fieldsOf, meaningIf, meaning}

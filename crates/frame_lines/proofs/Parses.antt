@@ -7,7 +7,7 @@ use native.Mathlib.Omega.{arith}
 use lib.Ieee.{Float}
 use lib.ListN.{length, drop, length-drop}
 use borrow.Author.Tests.{le-leb, lt-leb}
-use Rattle.frame_lines.specs.declared.line.SpeechLevel.{SpeechLevel}
+use Rattle.mono_input_volume_controller.specs.declared.speech_level.SpeechLevel.{SpeechLevel}
 use Rattle.frame_lines.specs.declared.line.Parsed.the-variants.{Malformed, Frame}
 use Rattle.frame_lines.specs.Digits.{areDigits}
 use Rattle.frame_lines.specs.Samples.{areSamples, samplesIn}

@@ -7,7 +7,7 @@ use Prim.Native.Nat.{ℕ, suc, _+_, _≤_}
 use lib.ListN.{length, take, drop}
 use Rattle.frame_lines.specs.declared.lines.Feed.{Feed}
 use Rattle.frame_lines.specs.declared.lines.Feed.the-variants.{At, Nowhere}
-use Rattle.frame_lines.specs.declared.lines.Pending.{Pending}
+use Rattle.frame_lines.specs.declared.lines.Begun.{Begun}
 use Rattle.frame_lines.specs.Lines.{isFeed}
 use Rattle.frame_lines.specs.Stream.{keptCharacters}
 
@@ -37,15 +37,15 @@ feedFrom bytes start = placeFrom start (firstFeed (drop start bytes))
 -- ---- the beginning of a line
 
 -- in good order; `places` is true of every value of the type
-pub record Good (p : Pending) : Type 0 where
+pub record Good (p : Begun) : Type 0 where
   pub within : p .length ≤ keptCharacters
   pub places : length (p .bytes) ≡ keptCharacters
 
 -- what is kept
-abbrev pub kept : Pending → List ℕ
+abbrev pub kept : Begun → List ℕ
 kept p = take (p .length) (p .bytes)
 
 -- r is in good order and keeps a text
-pub record Keeps (text : List ℕ) (r : Pending) : Type 0 where
+pub record Keeps (text : List ℕ) (r : Begun) : Type 0 where
   pub good : Good r
   pub kept-is : kept r ≡ text

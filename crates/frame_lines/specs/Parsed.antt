@@ -7,8 +7,8 @@ use Prim.Native.Nat.{ℕ}
 use lib.Ieee.{Float, binary32, ofBits, ofInt}
 use lib.IntN.{ℤ}
 use lib.ListN.{length}
-use Rattle.frame_lines.specs.declared.line.SpeechLevel.{SpeechLevel}
-use Rattle.frame_lines.specs.declared.line.SpeechLevel.the-variants.{Absent, Dbfs}
+use Rattle.mono_input_volume_controller.specs.declared.speech_level.SpeechLevel.{SpeechLevel}
+use Rattle.mono_input_volume_controller.specs.declared.speech_level.SpeechLevel.the-variants.{Absent, Dbfs}
 use Rattle.frame_lines.specs.declared.line.Parsed.{Parsed}
 use Rattle.frame_lines.specs.declared.line.Parsed.the-variants.{Malformed, Frame}
 use Rattle.frame_lines.specs.Samples.{samplesIn}

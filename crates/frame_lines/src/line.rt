@@ -10,6 +10,7 @@ use crate::digits::NO_DIGIT;
 use crate::digits::weight_of_four;
 use crate::digits::weight_of_two;
 use crate::digits::weights;
+use mono_input_volume_controller::speech_level::SpeechLevel;
 
 // A longer line is malformed.
 pub const MOST_CHARACTERS: usize = 2000;
@@ -22,12 +23,6 @@ const AFTER_DASH: usize = 14;
 
 // behind the bits of a level.
 const AFTER_BITS: usize = 21;
-
-// A speech level in dBFS, if there is one.
-pub enum SpeechLevel {
-    Absent,
-    Dbfs(f32),
-}
 
 // What a line says: volume, speech probability, speech level, and how many samples it has.
 pub enum Parsed {

@@ -18,7 +18,7 @@ pub enum Feed {
 }
 
 // The beginning of a line, whose end is to come: the first `length` of these bytes.
-pub struct Pending {
+pub struct Begun {
     pub bytes: [u8; KEPT_CHARACTERS],
     pub length: usize,
 }
@@ -82,19 +82,19 @@ fn room(length: usize, more: usize) -> usize
     }
 }
 
-impl Pending {
+impl Begun {
     // No line has begun.
-    pub fn new() -> Pending
+    pub fn new() -> Begun
         ensures { λ r. ⌜ Keeps [] r ⌝ }
     {
-        Pending {
+        Begun {
             bytes: [0u8; KEPT_CHARACTERS],
             length: 0,
         }
     }
 
     // The line has ended.
-    pub fn cleared(self) -> Pending
+    pub fn cleared(self) -> Begun
         requires { ⌜ Good self ⌝ }
         ensures { λ r. ⌜ Keeps [] r ⌝ }
     {
@@ -104,7 +104,7 @@ impl Pending {
     }
 
     // More of the line has come.
-    pub fn append(self, part: &[u8]) -> Pending
+    pub fn append(self, part: &[u8]) -> Begun
         requires { ⌜ Good self ⌝ }
         ensures { λ r. ⌜ Keeps (cut (kept self ++ now (part .entry))) r ⌝ }
     {

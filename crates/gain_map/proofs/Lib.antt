@@ -1,5 +1,4 @@
 pub mod GainTable
 pub mod Paths
 pub mod Walks
-pub mod Starred
 pub mod Says

@@ -39,12 +39,12 @@ walk (pos zero) volume min max = volume
 walk (pos (suc n)) volume min max = rise (pos (suc n)) volume max
 walk (negsuc n) volume min max = fall (negsuc n) volume min
 
--- "The bare volume step tests 2 (its minimum), 8, 10 (its maximum not 0 to 255, or the volume above it; a minimum above the maximum is let through)."
--- `updateSays` gives each case document 01's number and value.
+-- document 01's number and value for each case of the answer
 abbrev pub updateSays : VolumeUpdate → Said ℤ
 updateSays (Volume v) = accepted v
 updateSays (Refused cause) = refused (numberOf cause)
 
+-- "The bare volume step tests 2 (its minimum), 8, 10 (its maximum not 0 to 255, or the volume above it; a minimum above the maximum is let through)."
 abbrev pub reached : Bool → ℕ → VolumeUpdate
 reached true volume = Volume (pos volume)
 reached false volume = Refused EstimateRange

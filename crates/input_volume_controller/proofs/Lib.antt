@@ -1,8 +1,8 @@
 pub mod Clipped
-pub mod Ratios
 pub mod ChannelLists
 pub mod Volumes
 pub mod Making
 pub mod Whole
 pub mod Answers
 pub mod Numbered
+pub mod Says

@@ -3,6 +3,7 @@ use mathlib.Core.Path.{_≡_, refl, sym, ap, _∙_}
 use mathlib.Core.Bool.{Bool, true, false}
 use Prim.Native.Nat.{ℕ, zero, suc}
 use native.Mathlib.Omega.{arith}
+use Rattle.numbers.specs.Flag.{isSet, flagOf}
 use Rattle.clipping_predictor.specs.declared.ClippingPredictor.{ClippingPredictor}
 use Rattle.clipping_predictor.specs.declared.settings.ClippingPredictorMode.{ClippingPredictorMode}
 use Rattle.clipping_predictor.specs.declared.settings.ClippingPredictorMode.the-variants.{ClippingEventPrediction, AdaptiveStepClippingPeakPrediction, FixedStepClippingPeakPrediction}
@@ -31,6 +32,11 @@ mode-again ClippingEventPrediction = refl
 mode-again AdaptiveStepClippingPeakPrediction = refl
 mode-again FixedStepClippingPeakPrediction = refl
 
+flag-again : (on : Bool) → isSet (flagOf on) ≡ on
+unfolding isSet
+flag-again true = refl
+flag-again false = refl
+
 applied-again : (a : Applied) → appliedOf (isPending a) (pendingVolume a) ≡ a
 applied-again Nothing = refl
 applied-again (Volume v) = refl
@@ -49,4 +55,4 @@ control-again c = λ i. record {
 
 pub predictor-again : (p : ClippingPredictor) → wholePredictor (plainPredictor p) ≡ p
 unfolding wholePredictor plainPredictor
-predictor-again p = rw (mode-again (p .settings .mode))
+predictor-again p = rw (mode-again (p .settings .mode), flag-again (p .settings .enabled))

@@ -8,13 +8,12 @@ use lib.Ieee.{nan}
 use lib.ListN.{length, getD}
 use Rattle.numbers.specs.Listed.{listed}
 use Rattle.clipping_predictor.specs.Predictor.{maxChannels}
-use Rattle.mono_input_volume_controller.specs.declared.config.Settings.{Settings}
 use Rattle.mono_input_volume_controller.specs.declared.mono.MonoInputVolumeController.{MonoInputVolumeController}
 use Rattle.input_volume_controller.specs.declared.channels.ChannelCall.{ChannelCall}
 use Rattle.input_volume_controller.specs.declared.channels.ChannelCall.the-variants.{Initialize, CaptureOutputUsed, StreamAnalogLevel, Clipping, Process}
 use Rattle.input_volume_controller.specs.declared.channels.Channels.{Channels}
 use Rattle.input_volume_controller.specs.declared.channels.Aggregate.{Aggregate}
-use Rattle.mono_input_volume_controller.specs.Mono.{created, initialized, handledCaptureOutputUsedChange, withStreamAnalogLevel, handledClipping}
+use Rattle.mono_input_volume_controller.specs.Mono.{initialized, handledCaptureOutputUsedChange, withStreamAnalogLevel, handledClipping}
 use Rattle.mono_input_volume_controller.specs.MonoProcess.{processed}
 use Rattle.mono_input_volume_controller.specs.MonoState as Mono
 
@@ -28,7 +27,7 @@ noChannel = record {
   ceiling = 0;
   last = 0;
   used = false;
-  pending = false;
+  check = false;
   startup = false;
   volume = 0;
   wait = 0;
@@ -58,10 +57,6 @@ pub record Becomes (said : List MonoInputVolumeController) (r : Channels) : Type
   pub is : channelsOf r ≡ said
 
 -- ---- one call of every channel
-
--- a channel of a fresh controller
-abbrev pub freshChannel : Settings → MonoInputVolumeController
-freshChannel s = created s
 
 unfoldable pub called : ChannelCall → MonoInputVolumeController → MonoInputVolumeController
 unfolding handledCaptureOutputUsedChange handledClipping processed

@@ -28,7 +28,7 @@ use Rattle.input_volume_controller.specs.declared.volume_control.VolumeC
 use Rattle.input_volume_controller.specs.declared.InputVolumeController.{InputVolumeController}
 use Rattle.input_volume_controller.specs.declared.Created.{Created}
 use Rattle.mono_input_volume_controller.specs.Config.{defaults, settingsFrom, settingsOf}
-use Rattle.input_volume_controller.specs.Channels.{freshChannel}
+use Rattle.mono_input_volume_controller.specs.Mono.{created}
 use Rattle.input_volume_controller.specs.Control.{Control, controlOf}
 use Rattle.input_volume_controller.specs.Control as ControlOf
 
@@ -79,7 +79,7 @@ predictorConfig on =
 abbrev pub freshControl : Settings → ℕ → Control
 freshControl s channels = record {
   settings = s;
-  channels = replicate channels (freshChannel s);
+  channels = replicate channels (created s);
   since = s .«clipped_wait»;
   used = true;
   applied = Nothing;

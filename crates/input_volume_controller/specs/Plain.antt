@@ -1,6 +1,7 @@
 -- A controller with numbers where it has enums: what passes to C and back. Definitions only.
 use mathlib.Core.Bool.{Bool, true, false}
 use Prim.Native.Nat.{ℕ, zero, suc}
+use Rattle.numbers.specs.Flag.{isSet, flagOf}
 use Rattle.clipping_predictor.specs.declared.ClippingPredictor.{ClippingPredictor}
 use Rattle.clipping_predictor.specs.declared.settings.ClippingPredictorMode.{ClippingPredictorMode}
 use Rattle.clipping_predictor.specs.declared.settings.ClippingPredictorMode.the-variants.{ClippingEventPrediction, AdaptiveStepClippingPeakPrediction, FixedStepClippingPeakPrediction}
@@ -61,7 +62,7 @@ wholePredictor p = record {
   rings = p .rings;
   channels = p .channels;
   settings = record {
-    enabled = p .enabled;
+    enabled = isSet (p .enabled);
     mode = modeOf (p .mode);
     window = p .window;
     reference = p .reference;
@@ -75,7 +76,7 @@ unfoldable pub plainPredictor : ClippingPredictor → PlainPredictor
 plainPredictor p = record {
   rings = p .rings;
   channels = p .channels;
-  enabled = p .settings .enabled;
+  enabled = flagOf (p .settings .enabled);
   mode = modeNumber (p .settings .mode);
   window = p .settings .window;
   reference = p .settings .reference;

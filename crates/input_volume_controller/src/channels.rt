@@ -5,7 +5,8 @@ ghost use lib.ListN.{replicate};
 ghost use Rattle.clipping_predictor.specs.Predictor.{maxChannels};
 ghost use Rattle.mono_input_volume_controller.specs.Config.{Good as GoodSettings};
 ghost use Rattle.mono_input_volume_controller.specs.MonoState.{Good as GoodChannel, Becomes as BecomesChannel};
-ghost use Rattle.input_volume_controller.specs.Channels.{Good, Becomes, freshChannel, called, channelsOf, eachCalled, lowerOf, aggregateOf};
+ghost use Rattle.mono_input_volume_controller.specs.Mono.{created};
+ghost use Rattle.input_volume_controller.specs.Channels.{Good, Becomes, called, channelsOf, eachCalled, lowerOf, aggregateOf};
 use clipping_predictor::MAX_CHANNELS;
 use mono_input_volume_controller::config::Settings;
 use mono_input_volume_controller::mono::MAX_INPUT_VOLUME;
@@ -37,23 +38,23 @@ pub struct Aggregate {
 // Ports `MonoInputVolumeController::new`, for settings that the controller of all channels has tested.
 fn fresh_channel(s: Settings) -> MonoInputVolumeController
     requires { ⌜ GoodSettings s ⌝ }
-    ensures { λ r. ⌜ BecomesChannel (freshChannel s) r ⌝ }
+    ensures { λ r. ⌜ BecomesChannel (created s) r ⌝ }
 {
     MonoInputVolumeController {
-        least: s.least,
-        floor: s.floor,
-        ceiling: MAX_INPUT_VOLUME,
-        last: 0,
-        used: true,
-        pending: true,
-        startup: true,
-        volume: 0,
+        floor: s.floor as u32,
         wait: s.update_wait,
         frames: 0,
         speech: 0,
-        first: true,
         probability: s.speech_probability,
         ratio: s.speech_ratio,
+        least: s.least,
+        ceiling: MAX_INPUT_VOLUME,
+        last: 0,
+        volume: 0,
+        used: true,
+        check: true,
+        startup: true,
+        first: true,
     }
 }
 
@@ -83,7 +84,7 @@ fn lower_of(a: Aggregate, volume: u8, channel: usize) -> Aggregate
 impl Channels {
     pub fn new(count: usize, s: Settings) -> Channels
         requires { ⌜ (1 ≤ count) × (count ≤ maxChannels) × GoodSettings s ⌝ }
-        ensures { λ r. ⌜ Becomes (replicate count (freshChannel s)) r ⌝ }
+        ensures { λ r. ⌜ Becomes (replicate count (created s)) r ⌝ }
     {
         let channel = fresh_channel(s);
         let items = [channel; MAX_CHANNELS];

@@ -5,13 +5,14 @@ ghost use mathlib.Core.List.{[]};
 ghost use Prim.Native.Nat.{_≤_};
 ghost use lib.IntN.{pos};
 ghost use lib.ListN.{getD};
-ghost use Rattle.clipping_predictor_level_buffer.specs.Ring.{storedAt};
+ghost use Rattle.clipping_predictor_level_buffer.specs.Ring.{storedSays, storedAt};
 ghost use Rattle.clipping_predictor.specs.Predictor.{maxChannels};
 ghost use Rattle.mono_input_volume_controller.specs.Config.{Good as GoodSettings};
 ghost use Rattle.input_volume_controller.specs.Controller.{viewOf, Good, Becomes, predictorConfig, fresh, RefusedWith, CreatedOf};
 ghost use Rattle.input_volume_controller.specs.Reply.{done, recommendationSays};
 ghost use Rattle.input_volume_controller.specs.Calls.{recommendation, initialise, captureSwitch, Does, AnalyzedOf};
-use crate::volume_control::VolumeControl;
+pub use crate::volume_control::VolumeControl;
+use crate::volume_control::fresh_control;
 use clipping_predictor::ClippingPredictor;
 use clipping_predictor::MAX_CHANNELS;
 use clipping_predictor::create_clipping_predictor;
@@ -39,7 +40,6 @@ pub enum Applied {
     Volume(u8),
 }
 
-#[repr(C)]
 pub struct InputVolumeController {
     pub control: VolumeControl,
     pub predictor: ClippingPredictor,
@@ -95,7 +95,7 @@ fn fresh(channels: usize, s: Settings) -> InputVolumeController
     let made = create_clipping_predictor(channels as i32, predictor_config(s.predicts));
     let predictor = made.predictor;
     InputVolumeController {
-        control: VolumeControl::new(channels, s),
+        control: fresh_control(channels, s),
         predictor,
     }
 }
@@ -213,7 +213,7 @@ impl InputVolumeController {
     // The i-th record that a channel's ring stores, the newest being the 0th.
     pub fn stored_record(self, channel: usize, i: usize) -> Stored
         requires { ⌜ Good self ⌝ }
-        ensures { λ r. ⌜ r ≡ storedAt (getD (viewOf self .predictor .rings) channel []) i ⌝ }
+        ensures { λ r. ⌜ storedSays r ≡ storedSays (storedAt (getD (viewOf self .predictor .rings) channel []) i) ⌝ }
     {
         let predictor = self.predictor;
         if predictor.channels <= channel {

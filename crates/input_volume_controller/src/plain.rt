@@ -1,4 +1,5 @@
-// A controller with numbers where it has enums: what passes to C and back, which an enum cannot.
+// A controller with numbers where it has enums: what passes to C and back, which an enum cannot. In each struct the larger come first, and the sizes add up to
+// whole words of eight bytes: no byte of it is a gap, so each is written, and equal states are equal byte for byte.
 ghost use mathlib.Core.Path.{_≡_};
 ghost use Rattle.input_volume_controller.specs.Plain.{modeOf, modeNumber, appliedOf, isPending, pendingVolume, wholeControl, plainControl, wholePredictor, plainPredictor};
 use crate::Applied;
@@ -9,31 +10,34 @@ use clipping_predictor::MAX_CHANNELS;
 use clipping_predictor::settings::ClippingPredictorMode;
 use clipping_predictor_level_buffer::ClippingPredictorLevelBuffer;
 use mono_input_volume_controller::config::Settings;
+use numbers::flag::flag_of;
+use numbers::flag::is_set;
 
 #[repr(C)]
 pub struct PlainControl {
-    pub settings: Settings,
     pub channels: Channels,
+    pub controlling: usize,
+    pub settings: Settings,
     pub since: u32,
     pub used: bool,
     // whether a volume is applied, and it, or 0
     pub pending: bool,
     pub applied: u8,
     pub volume: u8,
-    pub controlling: usize,
 }
 
 #[repr(C)]
 pub struct PlainPredictor {
     pub rings: [ClippingPredictorLevelBuffer; MAX_CHANNELS],
     pub channels: usize,
-    pub enabled: bool,
-    pub mode: u32,
     pub window: usize,
     pub reference: usize,
     pub delay: usize,
     pub threshold: i32,
     pub margin: i32,
+    pub mode: u32,
+    // 1 where it is on, 0 where it is off
+    pub enabled: u32,
 }
 
 fn mode_of(n: u32) -> ClippingPredictorMode
@@ -127,7 +131,7 @@ pub fn whole_predictor(p: PlainPredictor) -> ClippingPredictor
         rings,
         channels: p.channels,
         settings: clipping_predictor::settings::Settings {
-            enabled: p.enabled,
+            enabled: is_set(p.enabled),
             mode: mode_of(p.mode),
             window: p.window,
             reference: p.reference,
@@ -147,7 +151,7 @@ pub fn plain_predictor(p: ClippingPredictor) -> PlainPredictor
     PlainPredictor {
         rings,
         channels: p.channels,
-        enabled: settings.enabled,
+        enabled: flag_of(settings.enabled),
         mode: mode_number(mode),
         window: settings.window,
         reference: settings.reference,

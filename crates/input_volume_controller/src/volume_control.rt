@@ -20,11 +20,12 @@ use mono_input_volume_controller::speech_level::SpeechError;
 use mono_input_volume_controller::speech_level::SpeechLevel;
 use mono_input_volume_controller::speech_level::get_speech_level_rms_error_db;
 
-#[repr(C)]
 pub struct VolumeControl {
-    pub settings: Settings,
     // channel_controllers
     pub channels: Channels,
+    // channel_controlling_gain
+    pub controlling: usize,
+    pub settings: Settings,
     // frames_since_clipped
     pub since: u32,
     // capture_output_used
@@ -33,8 +34,6 @@ pub struct VolumeControl {
     pub applied: Applied,
     // recommended_input_volume
     pub volume: u8,
-    // channel_controlling_gain
-    pub controlling: usize,
 }
 
 // What a recommendation answers.
@@ -75,22 +74,23 @@ fn speech_error(level: SpeechLevel, min: i32, max: i32) -> RmsError
     }
 }
 
-impl VolumeControl {
-    pub fn new(count: usize, s: Settings) -> VolumeControl
-        requires { ⌜ (1 ≤ count) × (count ≤ maxChannels) × GoodSettings s ⌝ }
-        ensures { λ r. ⌜ Becomes (freshControl s count) r ⌝ }
-    {
-        VolumeControl {
-            settings: s,
-            channels: Channels::new(count, s),
-            since: s.clipped_wait,
-            used: true,
-            applied: Applied::Nothing,
-            volume: 0,
-            controlling: 0,
-        }
+// The control of a controller that is just made, with settings that were tested.
+pub fn fresh_control(count: usize, s: Settings) -> VolumeControl
+    requires { ⌜ (1 ≤ count) × (count ≤ maxChannels) × GoodSettings s ⌝ }
+    ensures { λ r. ⌜ Becomes (freshControl s count) r ⌝ }
+{
+    VolumeControl {
+        settings: s,
+        channels: Channels::new(count, s),
+        since: s.clipped_wait,
+        used: true,
+        applied: Applied::Nothing,
+        volume: 0,
+        controlling: 0,
     }
+}
 
+impl VolumeControl {
     fn with_applied(self, applied: Applied) -> VolumeControl
         requires { ⌜ Good self ⌝ }
         ensures { λ r. ⌜ Becomes (withApplied applied (controlOf self)) r ⌝ }

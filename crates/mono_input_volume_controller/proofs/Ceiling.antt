@@ -12,7 +12,7 @@ use Rattle.mono_input_volume_controller.specs.declared.speech_level.RmsE
 use Rattle.mono_input_volume_controller.specs.declared.mono.MonoInputVolumeController.{MonoInputVolumeController}
 use Rattle.mono_input_volume_controller.specs.MonoState.{maxInputVolume, flags, counts}
 use Rattle.mono_input_volume_controller.specs.Mono.{volumeQuantizationSlack, isUsers, unlessSame, unlessUsers, unlessMuted, withInputVolume}
-use Rattle.mono_input_volume_controller.specs.MonoProcess.{staysMuted, unlessStaysMuted, checkedVolumeAndReset, heldError, isZero, unlessZero, updatedInputVolume, ifPending, settled, speechFrames, mayAct, corrected, waited, unlessWaited, counted, processed}
+use Rattle.mono_input_volume_controller.specs.MonoProcess.{staysMuted, unlessStaysMuted, checkedVolumeAndReset, heldError, isZero, unlessZero, updatedInputVolume, ifCheck, settled, speechFrames, mayAct, corrected, waited, unlessWaited, counted, processed}
 use Rattle.mono_input_volume_controller.proofs.Users.{apart, users-exactly}
 
 -- a ceiling before and after a call: it does not fall, and where it rises, it is the user's volume that passed it
@@ -74,13 +74,13 @@ unless-stays-muted : (t : Bool) (v : ℕ) (m n : MonoInputVolumeController) → 
 unless-stays-muted true v m n p = p
 unless-stays-muted false v m n p = record { from = p .from; by-user = λ h. absurd (omega (arith, p .by-user h .1)) }
 
-if-pending : (t : Bool) (m n : MonoInputVolumeController) → PassedOf (ifPending t m) n → PassedOf m n
+if-check : (t : Bool) (m n : MonoInputVolumeController) → PassedOf (ifCheck t m) n → PassedOf m n
 unfolding checkedVolumeAndReset
-if-pending true m n p = unless-stays-muted (staysMuted (m .startup) (m .volume)) (max (m .volume) (m .least)) (flags (m .used) false (m .startup) m) n p
-if-pending false m n p = p
+if-check true m n p = unless-stays-muted (staysMuted (m .startup) (m .volume)) (max (m .volume) (m .least)) (flags (m .used) false (m .startup) m) n p
+if-check false m n p = p
 
 pub process-passed : (e : RmsError) (p : Float) (m : MonoInputVolumeController) → PassedOf m (processed e p m)
 unfolding processed settled
 process-passed e p m =
-    let s = ifPending (m .pending) m in
-    if-pending (m .pending) m (processed e p m) (count-passed e (speechFrames p s) s)
+    let s = ifCheck (m .check) m in
+    if-check (m .check) m (processed e p m) (count-passed e (speechFrames p s) s)

@@ -13,7 +13,7 @@ use Rattle.mono_input_volume_controller.specs.declared.speech_level.RmsE
 use Rattle.mono_input_volume_controller.specs.declared.mono.MonoInputVolumeController.{MonoInputVolumeController}
 use Rattle.mono_input_volume_controller.specs.MonoState.{maxInputVolume, Good, Becomes, counts, flags}
 use Rattle.mono_input_volume_controller.specs.Mono.{handledCaptureOutputUsedChange, isUsers, takenFromUser, unlessSame, unlessUsers, unlessMuted, withInputVolume, lowered, lowerCeiling, unlessAtFloor, handledClipping}
-use Rattle.mono_input_volume_controller.specs.MonoProcess.{staysMuted, unlessStaysMuted, checkedVolumeAndReset, heldError, isZero, unlessZero, updatedInputVolume, ifPending, settled, oneMoreIf, speechFrames, mayAct, corrected, waited, unlessWaited, counted, processed}
+use Rattle.mono_input_volume_controller.specs.MonoProcess.{staysMuted, unlessStaysMuted, checkedVolumeAndReset, heldError, isZero, unlessZero, updatedInputVolume, ifCheck, settled, oneMoreIf, speechFrames, mayAct, corrected, waited, unlessWaited, counted, processed}
 
 -- what a definition says, in good order, is what a call hands back
 pub becomes : {said r : MonoInputVolumeController} → r ≡ said → Good said → Becomes said r
@@ -58,7 +58,7 @@ pub good-clipped : (step : ℕ) (m : MonoInputVolumeController) → Good m → G
 unfolding handledClipping
 good-clipped step m g = unless-at-floor (leb (m .last) (m .floor)) (lowered m step (m .last)) (lowerCeiling step m) (good-lower step m g)
 
--- ---- the pending check
+-- ---- the check
 
 unless-stays-muted : (t : Bool) (v : ℕ) (m : MonoInputVolumeController) → v ≤ maxInputVolume → Good m → Good (unlessStaysMuted t v m)
 unless-stays-muted true v m h g = g
@@ -71,13 +71,13 @@ good-checked m g = unless-stays-muted (staysMuted (m .startup) (m .volume)) (max
 good-unasked : (m : MonoInputVolumeController) → Good m → Good (flags (m .used) false (m .startup) m)
 good-unasked m g = omega arith
 
-if-pending : (t : Bool) (m : MonoInputVolumeController) → Good m → Good (ifPending t m)
-if-pending true m g = good-checked (flags (m .used) false (m .startup) m) (good-unasked m g)
-if-pending false m g = g
+if-check : (t : Bool) (m : MonoInputVolumeController) → Good m → Good (ifCheck t m)
+if-check true m g = good-checked (flags (m .used) false (m .startup) m) (good-unasked m g)
+if-check false m g = g
 
 pub good-settled : (m : MonoInputVolumeController) → Good m → Good (settled m)
 unfolding settled
-good-settled m g = if-pending (m .pending) m g
+good-settled m g = if-check (m .check) m g
 
 -- ---- the error, and one frame
 

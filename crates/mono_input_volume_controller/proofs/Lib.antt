@@ -5,5 +5,5 @@ pub mod Paths
 pub mod Kept
 pub mod Users
 pub mod Ceiling
-pub mod Starred
+pub mod OneRounding
 pub mod Says

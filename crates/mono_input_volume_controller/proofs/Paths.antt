@@ -21,16 +21,16 @@ use Rattle.mono_input_volume_controller.specs.MonoProcess.{staysMuted, c
 
 -- ---- the tests
 
-module _ (pending used on : Bool) where
-  pub asked-used : used ≡ true → pending ≡ checkAsked pending used on
+module _ (check used on : Bool) where
+  pub asked-used : used ≡ true → check ≡ checkAsked check used on
   unfolding checkAsked
   asked-used a = rw a
 
-  pub asked-on : used ≡ false → on ≡ true → true ≡ checkAsked pending used on
+  pub asked-on : used ≡ false → on ≡ true → true ≡ checkAsked check used on
   unfolding checkAsked
   asked-on a b = rw (a, b)
 
-  pub asked-off : used ≡ false → on ≡ false → pending ≡ checkAsked pending used on
+  pub asked-off : used ≡ false → on ≡ false → check ≡ checkAsked check used on
   unfolding checkAsked
   asked-off a b = rw (a, b)
 
@@ -86,7 +86,7 @@ count-held n h = le→leb n (2 ^ 24) (omega arith)
 -- ---- the calls
 
 module _ (m : MonoInputVolumeController) where
-  pub switched : (on p : Bool) → p ≡ checkAsked (m .pending) (m .used) on → flags on p (m .startup) m ≡ handledCaptureOutputUsedChange on m
+  pub switched : (on p : Bool) → p ≡ checkAsked (m .check) (m .used) on → flags on p (m .startup) m ≡ handledCaptureOutputUsedChange on m
   unfolding handledCaptureOutputUsedChange
   switched on p e = ap (λ (k : Bool). flags on k (m .startup) m) e
 
@@ -127,15 +127,15 @@ module _ (m : MonoInputVolumeController) where
   check-muted a = rw a
 
   pub check-done : staysMuted (m .startup) (m .volume) ≡ false → (v : ℕ) → v ≡ max (m .volume) (m .least)
-      → counts 0 0 true (flags (m .used) (m .pending) false (volumes (m .ceiling) v v m)) ≡ checkedVolumeAndReset m
+      → counts 0 0 true (flags (m .used) (m .check) false (volumes (m .ceiling) v v m)) ≡ checkedVolumeAndReset m
   unfolding checkedVolumeAndReset
   check-done a v e = rw (e, a)
 
-  pub settle-check : m .pending ≡ true → checkedVolumeAndReset (flags (m .used) false (m .startup) m) ≡ settled m
+  pub settle-check : m .check ≡ true → checkedVolumeAndReset (flags (m .used) false (m .startup) m) ≡ settled m
   unfolding settled
   settle-check a = rw a
 
-  pub settle-none : m .pending ≡ false → m ≡ settled m
+  pub settle-none : m .check ≡ false → m ≡ settled m
   unfolding settled
   settle-none a = rw a
 

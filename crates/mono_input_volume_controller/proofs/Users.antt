@@ -26,7 +26,7 @@ module _ (last here : ℕ) where
   far false false p q h = absurd (omega (arith, ltb-false (last + volumeQuantizationSlack) here p, ltb-false (here + volumeQuantizationSlack) last q))
 
   -- THE RULE: the user's exactly if the difference is more than 25
-  pub users-exactly : (isUsers last here ≡ true → volumeQuantizationSlack < apart last here) × (volumeQuantizationSlack < apart last here → isUsers last here ≡ true)
+  pub users-exactly : (isUsers last here ≡ true → 25 < apart last here) × (25 < apart last here → isUsers last here ≡ true)
   unfolding isUsers
   users-exactly = (
     either (ltb (last + volumeQuantizationSlack) here) (ltb (here + volumeQuantizationSlack) last) refl refl,

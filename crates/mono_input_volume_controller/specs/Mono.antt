@@ -9,7 +9,7 @@ use Rattle.mono_input_volume_controller.specs.MonoState.{maxInputVolume,
 
 -- ---- `new`, `initialize`, `handle_capture_output_used_change`, `set_stream_analog_level`
 
--- a fresh channel: volumes 0 below the highest ceiling, a check pending, at its startup
+-- a fresh channel: volumes 0 below the highest ceiling, a check asked for, at its startup
 abbrev pub created : Settings → MonoInputVolumeController
 created s = record {
   least = s .least;
@@ -17,7 +17,7 @@ created s = record {
   ceiling = maxInputVolume;
   last = 0;
   used = true;
-  pending = true;
+  check = true;
   startup = true;
   volume = 0;
   wait = s .«update_wait»;
@@ -32,16 +32,16 @@ created s = record {
 abbrev pub initialized : MonoInputVolumeController → MonoInputVolumeController
 initialized m = counts 0 0 true (flags true true (m .startup) (volumes maxInputVolume (m .last) (m .volume) m))
 
--- whether a check is pending after the switch: output that was not used, and now is, asks for one
+-- whether a check is asked for after the switch: output that was not used, and now is, asks for one
 unfoldable pub checkAsked : Bool → Bool → Bool → Bool
-checkAsked pending true on = pending
-checkAsked pending false true = true
-checkAsked pending false false = pending
+checkAsked check true on = check
+checkAsked check false true = true
+checkAsked check false false = check
 
 -- a switch to what is so already changes nothing
 unfoldable pub handledCaptureOutputUsedChange : Bool → MonoInputVolumeController → MonoInputVolumeController
 unfolding checkAsked
-handledCaptureOutputUsedChange on m = flags on (checkAsked (m .pending) (m .used) on) (m .startup) m
+handledCaptureOutputUsedChange on m = flags on (checkAsked (m .check) (m .used) on) (m .startup) m
 
 -- the applied volume is the recommended one until another is set
 abbrev pub withStreamAnalogLevel : ℕ → MonoInputVolumeController → MonoInputVolumeController

@@ -21,7 +21,7 @@ staysMuted false volume = eqb volume 0
 -- any other volume is raised to the minimum and is the last one
 abbrev pub unlessStaysMuted : Bool → ℕ → MonoInputVolumeController → MonoInputVolumeController
 unlessStaysMuted true volume m = m
-unlessStaysMuted false volume m = counts 0 0 true (flags (m .used) (m .pending) false (volumes (m .ceiling) volume volume m))
+unlessStaysMuted false volume m = counts 0 0 true (flags (m .used) (m .check) false (volumes (m .ceiling) volume volume m))
 
 unfoldable pub checkedVolumeAndReset : MonoInputVolumeController → MonoInputVolumeController
 unfolding staysMuted
@@ -54,13 +54,13 @@ updatedInputVolume error m = unlessZero (isZero (heldError error)) (heldError er
 -- ---- `process`
 
 -- "the pending check runs first in `process`", once
-abbrev pub ifPending : Bool → MonoInputVolumeController → MonoInputVolumeController
-ifPending true m = checkedVolumeAndReset (flags (m .used) false (m .startup) m)
-ifPending false m = m
+abbrev pub ifCheck : Bool → MonoInputVolumeController → MonoInputVolumeController
+ifCheck true m = checkedVolumeAndReset (flags (m .used) false (m .startup) m)
+ifCheck false m = m
 
 unfoldable pub settled : MonoInputVolumeController → MonoInputVolumeController
 unfolding checkedVolumeAndReset
-settled m = ifPending (m .pending) m
+settled m = ifCheck (m .check) m
 
 -- a frame whose speech probability reaches the threshold is one of speech
 abbrev pub oneMoreIf : Bool → ℕ → ℕ

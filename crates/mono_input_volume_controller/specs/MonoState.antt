@@ -40,7 +40,7 @@ volumes ceiling last volume m = record {
   ceiling = ceiling;
   last = last;
   used = m .used;
-  pending = m .pending;
+  check = m .check;
   startup = m .startup;
   volume = volume;
   wait = m .wait;
@@ -51,15 +51,15 @@ volumes ceiling last volume m = record {
   ratio = m .ratio;
 }
 
--- whether the output is used, whether a check is pending, and whether it is the startup
+-- whether the output is used, whether a check is asked for, and whether it is the startup
 abbrev pub flags : Bool → Bool → Bool → MonoInputVolumeController → MonoInputVolumeController
-flags used pending startup m = record {
+flags used check startup m = record {
   least = m .least;
   floor = m .floor;
   ceiling = m .ceiling;
   last = m .last;
   used = used;
-  pending = pending;
+  check = check;
   startup = startup;
   volume = m .volume;
   wait = m .wait;
@@ -78,7 +78,7 @@ counts frames speech first m = record {
   ceiling = m .ceiling;
   last = m .last;
   used = m .used;
-  pending = m .pending;
+  check = m .check;
   startup = m .startup;
   volume = m .volume;
   wait = m .wait;

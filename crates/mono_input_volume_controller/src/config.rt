@@ -18,20 +18,20 @@ pub struct Config {
     pub speech_ratio_threshold: f32,
 }
 
-// The same, in order: volumes and waits are unsigned, and the update wait is at least 1.
+// The same, in order: volumes and waits are unsigned, and the update wait is at least 1. Words come before bytes, so that no gap is left.
 #[repr(C)]
 pub struct Settings {
-    pub least: u8,
-    pub floor: u8,
-    pub step: u8,
     pub clipped_ratio: f32,
     pub clipped_wait: u32,
-    pub predicts: bool,
     pub max_target: i32,
     pub min_target: i32,
     pub update_wait: u32,
     pub speech_probability: f32,
     pub speech_ratio: f32,
+    pub least: u8,
+    pub floor: u8,
+    pub step: u8,
+    pub predicts: bool,
 }
 
 pub enum Checked {

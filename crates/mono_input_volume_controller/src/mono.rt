@@ -15,50 +15,50 @@ const VOLUME_QUANTIZATION_SLACK: u32 = 25;
 // The largest error, either way, that is corrected at once, in dB.
 const MAX_ABS_RMS_ERROR_DBFS: i32 = 15;
 
-// Each field stands under its name in the source.
+// Each field stands under its name in the source. Whole words come first, then bytes, eight of them, so that no gap is left; so the floor, a volume, is a word.
 #[repr(C)]
 pub struct MonoInputVolumeController {
-    // min_input_volume
-    pub least: u8,
     // min_input_volume_after_clipping
-    pub floor: u8,
-    // max_input_volume
-    pub ceiling: u8,
-    // last_recommended_input_volume
-    pub last: u8,
-    // capture_output_used
-    pub used: bool,
-    // check_volume_on_next_process
-    pub pending: bool,
-    // startup
-    pub startup: bool,
-    // recommended_input_volume
-    pub volume: u8,
+    pub floor: u32,
     // update_input_volume_wait_frames
     pub wait: u32,
     // frames_since_update_input_volume
     pub frames: u32,
     // speech_frames_since_update_input_volume
     pub speech: u32,
-    // is_first_frame
-    pub first: bool,
     // speech_probability_threshold
     pub probability: f32,
     // speech_ratio_threshold
     pub ratio: f32,
+    // min_input_volume
+    pub least: u8,
+    // max_input_volume
+    pub ceiling: u8,
+    // last_recommended_input_volume
+    pub last: u8,
+    // recommended_input_volume
+    pub volume: u8,
+    // capture_output_used
+    pub used: bool,
+    // check_volume_on_next_process
+    pub check: bool,
+    // startup
+    pub startup: bool,
+    // is_first_frame
+    pub first: bool,
 }
 
 // Whether a check is to be made: where it was, and where capture is switched on from off.
-fn check_asked(pending: bool, used: bool, on: bool) -> bool
-    ensures { λ r. ⌜ r ≡ checkAsked pending used on ⌝ }
+fn check_asked(check: bool, used: bool, on: bool) -> bool
+    ensures { λ r. ⌜ r ≡ checkAsked check used on ⌝ }
 {
     if used {
-        return pending;
+        return check;
     }
     if on {
         return true;
     }
-    pending
+    check
 }
 
 // Whether a volume lies so far from the last one that it is the user's.
@@ -104,7 +104,7 @@ impl MonoInputVolumeController {
         let mut m = self;
         m.ceiling = MAX_INPUT_VOLUME;
         m.used = true;
-        m.pending = true;
+        m.check = true;
         m.frames = 0;
         m.speech = 0;
         m.first = true;
@@ -120,7 +120,7 @@ impl MonoInputVolumeController {
         ensures { λ r. ⌜ Becomes (handledCaptureOutputUsedChange «capture_output_used» self) r ⌝ }
     {
         let mut m = self;
-        m.pending = check_asked(self.pending, self.used, capture_output_used);
+        m.check = check_asked(self.check, self.used, capture_output_used);
         m.used = capture_output_used;
         m
     }
@@ -140,7 +140,7 @@ impl MonoInputVolumeController {
         requires { ⌜ Good self ⌝ }
         ensures { λ r. ⌜ Becomes (handledClipping «clipped_level_step» self) r ⌝ }
     {
-        let floor = self.floor;
+        let floor = self.floor as u8;
         let last = self.last;
         let mut m = self;
         m.ceiling = numbers::byte::larger(
@@ -161,7 +161,7 @@ impl MonoInputVolumeController {
         n
     }
 
-    // One frame: the pending check comes first, and no frame is a first one after it.
+    // One frame: the check comes first, where one is asked for, and no frame is a first one after it.
     pub fn process(
         self,
         rms_error_db: RmsError,
@@ -233,14 +233,14 @@ impl MonoInputVolumeController {
         m
     }
 
-    // The check, where it is pending, once.
+    // The check, where it is asked for, once.
     fn settle(self) -> MonoInputVolumeController
         requires { ⌜ Good self ⌝ }
         ensures { λ r. ⌜ Becomes (settled self) r ⌝ }
     {
-        if self.pending {
+        if self.check {
             let mut m = self;
-            m.pending = false;
+            m.check = false;
             return m.check_volume_and_reset();
         }
         self

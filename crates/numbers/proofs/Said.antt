@@ -34,9 +34,13 @@ cause-back EstimateRange = refl
 cause-back RingRange = refl
 cause-back FrameLine = refl
 
+-- the way back, for an enum with a case of values and one of refusals
+abbrev pub answerOf : {A E : Type 0} → (A → E) → (Refusal → E) → Said A → E
+answerOf value refusal (accepted values) = value values
+answerOf value refusal (refused number) = refusal (causeOf number)
+
 abbrev outcomeOf : Said (Unit {0}) → Outcome
-outcomeOf (accepted u) = Accepted
-outcomeOf (refused number) = Refused (causeOf number)
+outcomeOf = answerOf (λ values. Accepted) Refused
 
 outcome-back : (o : Outcome) → outcomeOf (outcomeSays o) ≡ o
 outcome-back Accepted = refl

@@ -4,3 +4,4 @@ pub mod Said
 pub mod Sign
 pub mod First
 pub mod Listed
+pub mod Flag

@@ -14,100 +14,39 @@
 //     A volume floats   B volume samples floats   a frame; a frame that says how many samples a channel has
 //     R probability level   I   C switch   D   a recommendation; initialise; the capture switch; all records
 //     V                                 from here on, all of the controller's state after each of its calls
-ghost use Prim.Native.Nat.{_≤_};
-ghost use lib.ListN.{length};
-ghost use Rattle.replay.specs.Session.{Good};
-use crate::session::Session;
-use libc::STDIN_FILENO;
-
-mod calls;
+//
+// A ring, a predictor and a controller are kept from line to line, each by itself. Every line is handed to all of them, and one answers it.
+mod controller;
+mod input;
+mod predictor;
 mod print;
-mod session;
+mod ring;
+mod state;
 mod text;
+mod values;
 
-// What is kept, and where the first line starts that has not ended yet.
-struct Ran {
-    session: Session,
-    at: usize,
-}
-
-// Answers the lines that have ended.
-fn run(before: Session, s: &[u8]) -> Ran
-    requires { ⌜ Good before ⌝ }
-    ensures { λ r. ⌜ Good (r .session) × (r .at ≤ length (now (s .entry))) ⌝ }
-{
-    let mut session = before;
-    let mut at = 0;
-    while at < s.len() {
-        let end = text::line_end(s, at);
-        if end >= s.len() {
-            break;
-        }
-        let line = &s[at..end];
-        print::text(line);
-        print::text(b" => ");
-        session = session::answer(session, line);
-        print::text(b"\n");
-        at = text::line_after(s, end);
-    }
-    Ran { session, at }
-}
-
-// The bytes from `at` to `end` are moved to the front; how many they are.
-fn moved(space: &mut [u8], at: usize, end: usize) -> usize
-    ensures { λ r. ⌜ r ≤ length (now (space .exit)) ⌝ }
-{
-    if space.len() < end {
-        return 0;
-    }
-    if end < at {
-        return 0;
-    }
-    let count = end - at;
-    for i in 0..count {
-        let from = at + i;
-        space[i] = space[from];
-    }
-    count
-}
-
-// What is kept after a piece, how many bytes of it are held for the next, and whether it was the last.
-struct Turn {
-    session: Session,
-    held: usize,
-    last: bool,
-}
-
-// Reads on behind the bytes that are held.
-fn piece(before: Session, space: &mut [u8], held: usize) -> Turn
-    requires { ⌜ Good before × (held ≤ length (now space)) ⌝ }
-    ensures { λ r. ⌜ Good (r .session) × (r .held ≤ length (now (space .exit))) ⌝ }
-{
-    let n = io::read_full(STDIN_FILENO, &mut space[held..]);
-    let end = held + n;
-    let start = 0;
-    let ran = run(before, &space[start..end]);
-    let session = ran.session;
-    let at = ran.at;
-    let left = moved(space, at, end);
-    Turn {
-        session,
-        held: left,
-        last: n < 1,
-    }
-}
-
-// A million pieces are more than any file has; a loop must end.
+// A loop must be shown to end: no input has so many lines.
 fn main() {
     let mut space = [0u8; 262144];
-    let mut session = session::fresh();
-    let mut held = 0;
-    for turn in 0..1_000_000u32 {
-        let t = piece(session, &mut space, held);
-        session = t.session;
-        held = t.held;
-        if t.last {
+    let mut ring = ring::fresh();
+    let mut predictor = predictor::fresh();
+    let mut controller = controller::fresh();
+    let mut full = false;
+    let mut line = input::start();
+    for turn in 0..u64::MAX {
+        line = input::next(&mut space, line);
+        if !line.whole {
             break;
         }
+        let start = line.start;
+        let end = line.end;
+        let s = &space[start..end];
+        let letter = print::asked(s);
+        full = numbers::truth::either(full, letter == b'V');
+        values::answer(letter, s);
+        ring = ring::answer(letter, ring, s);
+        predictor = predictor::answer(letter, predictor, s);
+        controller = controller::answer(letter, controller, s, full);
+        print::line_feed();
     }
 }

@@ -1,38 +1,37 @@
-// Reading the fields of a line: numbers in decimal or hexadecimal, one blank between two fields.
-ghost use Prim.Native.Nat.{_≤_, _<_, _^_};
+// Reading the fields of a line, which are counted from 0 behind its letter: numbers in decimal or hexadecimal, one blank between two fields.
+ghost use mathlib.Core.Path.{_≡_};
+ghost use Prim.Native.Nat.{_-_, _≤_, _<_, _^_};
 ghost use lib.ListN.{length};
 
-// A number, and where the next field starts.
-pub struct Field {
-    pub negative: bool,
-    pub size: u64,
-    pub next: usize,
+// 1 for a blank, and 0 for every other byte.
+fn blank(c: u8) -> usize
+    ensures { λ r. ⌜ r ≤ 1 ⌝ }
+{
+    if c == b' ' { 1 } else { 0 }
 }
 
-// Where the line that starts at `at` ends: at a line feed, or at the end of the text.
-pub fn line_end(s: &[u8], at: usize) -> usize
-    requires { ⌜ at ≤ length (now s) ⌝ }
-    ensures { λ r. ⌜ (at ≤ r) × (r ≤ length (now (s .entry))) ⌝ }
-{
-    let mut i = at;
+// Where a field starts: behind one blank more than its number.
+fn place(s: &[u8], field: usize) -> usize {
+    let mut blanks = 0usize;
+    let mut i = 0;
     while i < s.len() {
-        if s[i] == b'\n' {
+        if field < blanks {
             return i;
         }
+        blanks += blank(s[i]);
         i += 1;
     }
     i
 }
 
-// Where the line after a line feed starts.
-pub fn line_after(s: &[u8], end: usize) -> usize
-    requires { ⌜ end < length (now s) ⌝ }
-    ensures { λ r. ⌜ (end < r) × (r ≤ length (now (s .entry))) ⌝ }
+// How many bytes lie from `at` on.
+fn rest(s: &[u8], at: usize) -> usize
+    ensures { λ r. ⌜ r ≡ length (now (s .entry)) - at ⌝ }
 {
-    end + 1
+    if at < s.len() { s.len() - at } else { 0 }
 }
 
-// The value of a digit, and 16 for what is none.
+// The value of a digit, and 16 for what is none. A sign counts as a 0 in front.
 fn digit(c: u8) -> u64
     ensures { λ r. ⌜ r ≤ 16 ⌝ }
 {
@@ -46,7 +45,7 @@ fn digit(c: u8) -> u64
             return (c - b'a') as u64 + 10;
         }
     }
-    16
+    if c == b'-' { 0 } else { 16 }
 }
 
 // A digit more, up to 2^40.
@@ -61,98 +60,59 @@ fn appended(size: u64, base: u64, d: u64) -> u64
     }
 }
 
-// The digits in a base from `at` on, and the place after the blank that follows them.
-fn digits(s: &[u8], at: usize, base: u64) -> Field
+// The number of 32 bits that the digits in a base make from `at` on.
+fn digits(s: &[u8], at: usize, base: u64) -> u32
     requires { ⌜ base ≤ 16 ⌝ }
-    ensures { λ r. ⌜ r .size < 2 ^ 45 ⌝ }
 {
     let mut size: u64 = 0;
     let mut i = at;
     while i < s.len() {
-        let c = s[i];
-        let d = digit(c);
-        i += 1;
+        let d = digit(s[i]);
         if d >= base {
             break;
         }
         size = appended(size, base, d);
+        i += 1;
     }
-    Field {
-        negative: false,
-        size,
-        next: i,
-    }
+    (size % 0x1_0000_0000) as u32
 }
 
-// A decimal number with its sign.
-pub fn decimal(s: &[u8], at: usize) -> Field
-    ensures { λ r. ⌜ r .size < 2 ^ 45 ⌝ }
-{
+// A decimal field without its sign.
+pub fn size(s: &[u8], field: usize) -> u32 {
+    digits(s, place(s, field), 10)
+}
+
+// Whether a field starts with a dash.
+pub fn is_negative(s: &[u8], field: usize) -> bool {
+    let at = place(s, field);
     if at < s.len() {
-        if s[at] == b'-' {
-            let f = digits(s, at + 1, 10);
-            return Field {
-                negative: true,
-                size: f.size,
-                next: f.next,
-            };
-        }
+        return s[at] == b'-';
     }
-    digits(s, at, 10)
+    false
 }
 
-// A hexadecimal number.
-pub fn hexadecimal(s: &[u8], at: usize) -> Field
-    ensures { λ r. ⌜ r .size < 2 ^ 45 ⌝ }
-{
-    digits(s, at, 16)
+// A decimal field with its sign, held to the range of an i32.
+pub fn number(s: &[u8], field: usize) -> i32 {
+    numbers::sign::with_sign(is_negative(s, field), size(s, field))
 }
 
-// The bits of a float, as eight hexadecimal digits.
-pub fn bits(s: &[u8], at: usize) -> u32 {
-    let f = digits(s, at, 16);
-    (f.size % 0x1_0000_0000) as u32
+// A float, as eight hexadecimal digits.
+pub fn float(s: &[u8], field: usize) -> f32 {
+    levels::bits::from_bits(digits(s, place(s, field), 16))
 }
 
-// The float whose bits a number is.
-pub fn float(f: Field) -> f32 {
-    levels::bits::from_bits((f.size % 0x1_0000_0000) as u32)
-}
-
-// A number without its sign; one below 0 is larger than any that is taken.
-pub fn natural(f: Field) -> usize {
-    if f.negative {
-        return 0xffff_ffff;
-    }
-    f.size as usize
-}
-
-// A number as an i32, held to its range.
-pub fn signed(f: Field) -> i32 {
-    if f.size > 0xffff_ffff {
-        return numbers::sign::with_sign(f.negative, 0xffff_ffff);
-    }
-    numbers::sign::with_sign(f.negative, f.size as u32)
-}
-
-// The floats that follow from `at` on, each as eight hexadecimal digits with no gap.
-pub fn floats(s: &[u8], at: usize, out: &mut [f32]) -> usize
+// The floats of the last field, each as eight hexadecimal digits with no gap, as far as there is room; how many they are.
+pub fn floats(s: &[u8], field: usize, out: &mut [f32]) -> usize
     ensures { λ r. ⌜ r ≤ length (now (out .exit)) ⌝ }
 {
     let mut n = 0usize;
-    let mut i = at;
-    while n < 3840 {
-        if out.len() <= n {
-            break;
-        }
-        if s.len() < 8 {
-            break;
-        }
-        if s.len() - 8 < i {
+    let mut i = place(s, field);
+    while n < out.len() {
+        if rest(s, i) < 8 {
             break;
         }
         let end = i + 8;
-        out[n] = levels::bits::from_bits(bits(&s[i..end], 0));
+        out[n] = levels::bits::from_bits(digits(&s[i..end], 0, 16));
         n += 1;
         i = end;
     }

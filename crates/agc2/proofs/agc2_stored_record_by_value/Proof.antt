@@ -2,7 +2,7 @@
 use mathlib.Core.Path.{ap, _∙_}
 use mathlib.Core.List.{[]}
 use lib.ListN.{getD}
-use Rattle.clipping_predictor_level_buffer.specs.Ring.{storedAt}
+use Rattle.clipping_predictor_level_buffer.specs.Ring.{storedSays, storedAt}
 use Rattle.input_volume_controller.specs.declared.InputVolumeController.{InputVolumeController}
 use Rattle.input_volume_controller.specs.Controller.{viewOf}
 use Rattle.agc2.specs.Answers.{recordOf}
@@ -25,7 +25,7 @@ returns c =
     let r = c .before in
     let w = r .before in
     let a = w .before .args in
-    c .record-of .ensures ∙ ap recordOf (r .stored-record .ensures ∙ ap (λ (x : InputVolumeController). storedAt (getD (viewOf x .predictor .rings) (a .channel) []) (a .i)) (w .whole .ensures))
+    c .record-of .ensures ∙ ap recordOf (r .stored-record .ensures ∙ ap (λ (x : InputVolumeController). storedSays (storedAt (getD (viewOf x .predictor .rings) (a .channel) []) (a .i))) (w .whole .ensures))
 
 pub agc2-stored-record-by-value-spec : {M : Type 1} → statement M
 agc2-stored-record-by-value-spec = tie.close (tie.spec whole-requires stored-record-requires record-of-requires returns)

@@ -16,14 +16,14 @@ predictor-config-requires c κs = search needs
 create-clipping-predictor-requires : tie.Need-create-clipping-predictor-requires
 create-clipping-predictor-requires c κs = search needs
 
-new-requires : tie.Need-new-requires
-new-requires c κs = search needs
+fresh-control-requires : tie.Need-fresh-control-requires
+fresh-control-requires c κs = search needs
 
 returns : tie.Need-returns
 returns c =
     let s = c .before .before .before .before in
     let m = c .before .before .create-clipping-predictor in
-    made-whole (s .args .s) (s .args .channels) (c .new .result) (m .result) _ _ (toZ-pos w32 (s .args .channels) (omega (arith, s .pre .1))) (c .before .before .before .predictor-config .ensures) (s .pre .0) (s .pre .1) (c .new .ensures) (m .ensures)
+    made-whole (s .args .s) (s .args .channels) (c .fresh-control .result) (m .result) _ _ (toZ-pos w32 (s .args .channels) (omega (arith, s .pre .1))) (c .before .before .before .predictor-config .ensures) (s .pre .0) (s .pre .1) (c .fresh-control .ensures) (m .ensures)
 
 pub fresh-spec : {M : Type 1} → statement M
-fresh-spec = tie.close (tie.spec cast-create-clipping-predictor predictor-config-requires create-clipping-predictor-requires new-requires returns)
+fresh-spec = tie.close (tie.spec cast-create-clipping-predictor predictor-config-requires create-clipping-predictor-requires fresh-control-requires returns)

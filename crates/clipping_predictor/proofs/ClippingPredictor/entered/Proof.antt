@@ -4,7 +4,7 @@ use Prim.Native.Nat.{ℕ, _+_, _*_, _-_, _≤_, _<_}
 use native.Mathlib.Omega.{arith}
 use lib.ListN.{length, take, drop, getD, length-take, length-drop}
 use Rattle.numbers.proofs.Arrays.{Replaced, replaced-none, replaced-more}
-use Rattle.clipping_predictor_level_buffer.specs.Level.{levelOf}
+use Rattle.clipping_predictor_level_buffer.specs.Level.{frameRecord}
 use Rattle.clipping_predictor_level_buffer.specs.Ring.{Pushed}
 use Rattle.clipping_predictor.specs.Predictor.{Predictor, noRing, ringAt, partOf, viewOf, enteredIf}
 use mathlib.Core.Bool.{true}
@@ -103,7 +103,7 @@ pushed-part c =
     let i = c .before .before .before in
     let l = i .before .loop in
     let s = start i .args in
-    subst (λ (n : ℕ). Pushed (getD (l .p .rings) (l .c) noRing) (levelOf (take n (drop (l .c * s .samples) (s .frame .now)))) (c .pushed .result)) (size i) (c .pushed .ensures)
+    subst (λ (n : ℕ). Pushed (getD (l .p .rings) (l .c) noRing) (frameRecord (take n (drop (l .c * s .samples) (s .frame .now)))) (c .pushed .result)) (size i) (c .pushed .ensures)
 
 -- the same of the ring that was handed in
 pushed-own : (c : tie.After-pushed Inv-loop μ-loop) → let i = c .before .before .before in let s = start i .args in PushedAt (s .samples) (s .frame .now) (i .before .loop .c) (ringAt (s .self) (i .before .loop .c)) (c .pushed .result)

@@ -1,4 +1,5 @@
 -- `clipping_predictor_level_buffer::ClippingPredictorLevelBuffer::reset` meets its contract. Assumes nothing.
+use mathlib.Core.Path.{refl}
 use borrow.Author.Needs.{needs}
 use Rattle.numbers.specs.Listed.{listed}
 use Rattle.clipping_predictor_level_buffer.specs.Ring.{stored}
@@ -7,7 +8,7 @@ use Rattle.clipping_predictor_level_buffer.proofs.ClippingPredictorLeve
 
 returns : tie.Need-returns
 unfolding stored listed
-returns c = search needs
+returns c = record { good = search needs; capacity-is = refl; stored-is = refl }
 
 pub reset-spec : {M : Type 1} → statement M
 reset-spec = tie.close (tie.spec returns)

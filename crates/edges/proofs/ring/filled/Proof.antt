@@ -17,8 +17,8 @@ new-requires c κs = search needs
 loop-holds : tie.Need-loop-holds Inv-loop μ-loop
 loop-holds c = search needs
 
-int-to-float-x : tie.Need-int-to-float-x Inv-loop μ-loop
-int-to-float-x c = search needs
+nearest-u32-to-f32-requires : tie.Need-nearest-u32-to-f32-requires Inv-loop μ-loop
+nearest-u32-to-f32-requires c κs = search needs
 
 push-requires : tie.Need-push-requires Inv-loop μ-loop
 push-requires c κs = search needs
@@ -43,7 +43,7 @@ filled-spec =
     μ-loop
     new-requires
     loop-holds
-    int-to-float-x
+    nearest-u32-to-f32-requires
     push-requires
     add-i
     loop-less

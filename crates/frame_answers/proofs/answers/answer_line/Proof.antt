@@ -60,16 +60,12 @@ enum-known-answer c = search needs
 enum-known-answer-2 : tie.Need-enum-known-answer-2
 enum-known-answer-2 c = search needs
 
-level-for-requires : tie.Need-level-for-requires
-level-for-requires c κs = search needs
-
 recommended-requires : tie.Need-recommended-requires
 recommended-requires c κs =
-    let k = c .before in
-    let a = k .before .before .before .before in
+    let a = c .before .before .before .before in
     let t = a .before .before in (
       a .analyze-input-audio .ensures .does .good,
-      pending-after _ _ _ _ _ _ _ (frame-is (t .before)) _ (toZ-pos w32 _ (omega arith)) _ (a .analyze-input-audio .ensures) _ (k .before .answer2 .given .1),
+      pending-after _ _ _ _ _ _ _ (frame-is (t .before)) _ (toZ-pos w32 _ (omega arith)) _ (a .analyze-input-audio .ensures) _ (c .before .answer2 .given .1),
     )
 
 returns-2 : tie.Need-returns-2
@@ -80,11 +76,11 @@ returns-2 c =
 
 returns-3 : tie.Need-returns-3
 returns-3 c =
-    let k = c .before .before in
+    let k = c .before in
     let a = k .before .before .before .before in
     let t = a .before .before in
     accepted-as _ _ _ _ _ _ _ (frame-is (t .before)) _ (toZ-pos w32 _ (omega arith)) _ (a .analyze-input-audio .ensures) _ (k .before .answer2 .given .1)
-    _ (c .before .level-for .ensures) _ (c .recommended .ensures)
+    _ (c .recommended .ensures)
 
 pub answer-line-spec : {M : Type 1} → statement M
 answer-line-spec =
@@ -101,7 +97,6 @@ answer-line-spec =
     analyze-input-audio-requires
     enum-known-answer
     enum-known-answer-2
-    level-for-requires
     recommended-requires
     returns-2
     returns-3)

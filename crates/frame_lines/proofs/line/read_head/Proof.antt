@@ -1,6 +1,6 @@
 -- `frame_lines::line::read_head` meets its contract, way by way. Assumes nothing.
-use Rattle.frame_lines.specs.declared.line.SpeechLevel.{SpeechLevel}
-use Rattle.frame_lines.specs.declared.line.SpeechLevel.the-variants.{Dbfs}
+use Rattle.mono_input_volume_controller.specs.declared.speech_level.SpeechLevel.{SpeechLevel}
+use Rattle.mono_input_volume_controller.specs.declared.speech_level.SpeechLevel.the-variants.{Dbfs}
 use Rattle.frame_lines.specs.declared.line.Head.the-variants.{Fields}
 use Rattle.frame_lines.specs.Reading.{headOf}
 use Prim.Native.Nat.{ℕ}

@@ -5,19 +5,22 @@ use borrow.Author.Needs.{needs}
 use Rattle.input_volume_controller.proofs.plain.whole_predictor.Statement.{statement}
 use Rattle.input_volume_controller.proofs.plain.whole_predictor.Tie as tie
 
+is-set-requires : tie.Need-is-set-requires
+is-set-requires c κs = search needs
+
 mode-of-requires : tie.Need-mode-of-requires
 mode-of-requires c κs = search needs
 
 returns : tie.Need-returns
 unfolding wholePredictor
 returns c =
-    let p = c .before .before .before .args .p in
-    let t = c .struct-told .given .1 .1 .1 .1 .1 .1 .1 in
+    let p = c .before .before .before .before .args .p in
+    let t = c .struct-told .given .1 .1 .1 .1 .1 in
     λ i. record {
       rings = p .rings;
       channels = p .channels;
       settings = record {
-        enabled = p .enabled;
+        enabled = c .before .before .is-set .ensures i;
         mode = c .before .mode-of .ensures i;
         window = p .window;
         reference = p .reference;
@@ -28,4 +31,4 @@ returns c =
     }
 
 pub whole-predictor-spec : {M : Type 1} → statement M
-whole-predictor-spec = tie.close (tie.spec mode-of-requires returns)
+whole-predictor-spec = tie.close (tie.spec is-set-requires mode-of-requires returns)

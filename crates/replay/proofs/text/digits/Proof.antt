@@ -1,4 +1,4 @@
--- `replay::text::digits` stays within the text, and its number within 45 bits. Assumes nothing.
+-- `replay::text::digits` keeps its number within 45 bits. Assumes nothing.
 use Prim.Native.Nat.{_<_, _-_, _^_}
 use lib.ListN.{length}
 use borrow.Author.Needs.{needs}
@@ -14,17 +14,17 @@ abbrev μ-loop : tie.MeasureT-loop
 loop-holds : tie.Need-loop-holds Inv-loop μ-loop
 loop-holds c = search needs
 
-shared-slice-read-c : tie.Need-shared-slice-read-c Inv-loop μ-loop
-shared-slice-read-c c = search needs
+shared-slice-read-digit : tie.Need-shared-slice-read-digit Inv-loop μ-loop
+shared-slice-read-digit c = search needs
 
 digit-requires : tie.Need-digit-requires Inv-loop μ-loop
 digit-requires c κs = search needs
 
-add-i : tie.Need-add-i Inv-loop μ-loop
-add-i c = search needs
-
 appended-requires : tie.Need-appended-requires Inv-loop μ-loop
 appended-requires c κs = search needs
+
+add-i : tie.Need-add-i Inv-loop μ-loop
+add-i c = search needs
 
 loop-less : tie.Need-loop-less Inv-loop μ-loop
 loop-less c = search needs
@@ -32,11 +32,11 @@ loop-less c = search needs
 loop-again : tie.Need-loop-again Inv-loop μ-loop
 loop-again c = search needs
 
+cast-result : tie.Need-cast-result Inv-loop μ-loop
+cast-result c = search needs
+
 returns : tie.Need-returns Inv-loop μ-loop
 returns c = search needs
-
-returns-2 : tie.Need-returns-2 Inv-loop μ-loop
-returns-2 c = search needs
 
 pub digits-spec : {M : Type 1} → statement M
 digits-spec =
@@ -45,11 +45,11 @@ digits-spec =
     Inv-loop
     μ-loop
     loop-holds
-    shared-slice-read-c
+    shared-slice-read-digit
     digit-requires
-    add-i
     appended-requires
+    add-i
     loop-less
     loop-again
-    returns
-    returns-2)
+    cast-result
+    returns)

@@ -81,7 +81,7 @@ keeping-requires c κs =
     let n = c .before .before .before in
     let l = n .before .before in (
       so-far n .becomes .good,
-      ap (λ (t : List ℕ). ended (kept (l .loop .stream .pending) ++ t)) (behind (c .before))
+      ap (λ (t : List ℕ). ended (kept (l .loop .stream .begun) ++ t)) (behind (c .before))
           ∙ none-ends _ _ _ _ _ _ _ _ (so-far n) (lost (c .before)) (n .before .loop-test .taken),
     )
 

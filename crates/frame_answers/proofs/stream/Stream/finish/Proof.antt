@@ -15,8 +15,8 @@ array-share-prefix-bytes c = search needs
 slice-aggregate-answer-line : tie.Need-slice-aggregate-answer-line
 slice-aggregate-answer-line c =
     let s = c .before .before .before .before .before .before in
-    let p = s .args .self .pending in
-    let g = s .pre .pending in
+    let p = s .args .self .begun in
+    let g = s .pre .begun in
     omega (arith, length-take-le (p .length) (p .bytes) (omega (arith, g .within, g .places)))
 
 answer-line-requires : tie.Need-answer-line-requires

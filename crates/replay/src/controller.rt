@@ -1,0 +1,137 @@
+// The lines of the controller: made, frames, recommendations, initialises, capture switches, and what it holds. Each call's answer has the controller's volume behind it, or all of
+// its state.
+ghost use Rattle.input_volume_controller.specs.Controller.{Good};
+use crate::print;
+use crate::state;
+use crate::text;
+use input_volume_controller::InputVolumeController;
+use mono_input_volume_controller::config::Config;
+use mono_input_volume_controller::config::default_config;
+use mono_input_volume_controller::speech_level::SpeechLevel;
+
+// One channel, with the default settings.
+pub fn fresh() -> InputVolumeController
+    ensures { λ r. ⌜ Good r ⌝ }
+{
+    let created = InputVolumeController::new(1, default_config());
+    created.controller
+}
+
+fn config(s: &[u8]) -> Config {
+    Config {
+        min_input_volume: text::number(s, 1),
+        clipped_level_min: text::number(s, 2),
+        clipped_level_step: text::number(s, 3),
+        clipped_ratio_threshold: text::float(s, 4),
+        clipped_wait_frames: text::number(s, 5),
+        enable_clipping_predictor: text::number(s, 6) == 1,
+        target_range_max_dbfs: text::number(s, 7),
+        target_range_min_dbfs: text::number(s, 8),
+        update_input_volume_wait_frames: text::number(s, 9),
+        speech_probability_threshold: text::float(s, 10),
+        speech_ratio_threshold: text::float(s, 11),
+    }
+}
+
+fn accepted(c: InputVolumeController, full: bool) -> InputVolumeController
+    requires { ⌜ Good c ⌝ }
+    ensures { λ r. ⌜ Good r ⌝ }
+{
+    print::ok();
+    state::print_after(c, full);
+    c
+}
+
+// A refused making leaves the controller that was there.
+fn made(
+    old: InputVolumeController,
+    channels: i32,
+    config: Config,
+    full: bool,
+) -> InputVolumeController
+    requires { ⌜ Good old ⌝ }
+    ensures { λ r. ⌜ Good r ⌝ }
+{
+    let created = InputVolumeController::new(channels, config);
+    let answer = created.answer;
+    if !print::accepted(answer) {
+        return old;
+    }
+    let controller = created.controller;
+    accepted(controller, full)
+}
+
+// How many samples a channel has: so many as stand before the floats, or its share of the floats.
+fn samples(s: &[u8], field: usize, n: usize, channels: usize) -> usize {
+    if field > 1 {
+        return text::size(s, 1) as usize;
+    }
+    if channels < 1 {
+        return 0;
+    }
+    n / channels
+}
+
+// A frame, whose floats are in a field behind its volume. A near one has an `n` behind its answer.
+fn framed(c: InputVolumeController, s: &[u8], field: usize, full: bool) -> InputVolumeController
+    requires { ⌜ Good c ⌝ }
+    ensures { λ r. ⌜ Good r ⌝ }
+{
+    let mut space = [0.0f32; 3840];
+    let n = text::floats(s, field, &mut space);
+    let each = samples(s, field, n, c.control.channels.count);
+    let done = c.analyze_input_audio(text::number(s, 0), each, &space[..n]);
+    let next = done.controller;
+    let answer = done.answer;
+    print::analysis(answer);
+    state::print_after(next, full);
+    print::mark(answer);
+    next
+}
+
+fn speech_level(s: &[u8]) -> SpeechLevel {
+    if text::is_negative(s, 1) {
+        return SpeechLevel::Absent;
+    }
+    SpeechLevel::Dbfs(text::float(s, 1))
+}
+
+fn recommended(
+    c: InputVolumeController,
+    probability: f32,
+    level: SpeechLevel,
+    full: bool,
+) -> InputVolumeController
+    requires { ⌜ Good c ⌝ }
+    ensures { λ r. ⌜ Good r ⌝ }
+{
+    let done = c.recommend_input_volume(probability, level);
+    let next = done.controller;
+    let answer = done.answer;
+    print::recommendation(answer);
+    state::print_after(next, full);
+    next
+}
+
+// The answer to one line, by its first letter.
+pub fn answer(letter: u8, c: InputVolumeController, s: &[u8], full: bool) -> InputVolumeController
+    requires { ⌜ Good c ⌝ }
+    ensures { λ r. ⌜ Good r ⌝ }
+{
+    match letter {
+        b'N' => made(c, text::number(s, 0), config(s), full),
+        b'A' => framed(c, s, 1, full),
+        b'B' => framed(c, s, 2, full),
+        b'R' => recommended(c, text::float(s, 0), speech_level(s), full),
+        b'I' => accepted(c.initialize(), full),
+        b'C' => accepted(
+            c.handle_capture_output_used_change(text::number(s, 0) == 1),
+            full,
+        ),
+        b'D' => {
+            state::print_records(c, full);
+            c
+        }
+        _ => c,
+    }
+}
