@@ -54,7 +54,7 @@ use Rattle.input_volume_controller.specs.Frame.{askedOf, unlessWaiting, ifUsed,
 use Rattle.input_volume_controller.specs.Recommendation.{recommendIf, unlessNone, recommendInputVolume}
 use Rattle.input_volume_controller.specs.Calls.{after, step, frame, recommendation}
 use Rattle.claims.specs.Past.{isNumber, isAccepted}
-use Rattle.claims.specs.Marked.{Reached, compared, ceilingOf, reachedIf, projectedThen, modeReaches, windowsReach, estimateReaches, nearWhole, isNear, any, estimateMarked, waitIsOver, frameMarked, tenthReply, MarkedExactly}
+use Rattle.claims.specs.Marked.{Reached, compared, ceilingOf, reachedIf, projectedThen, modeReaches, windowsReach, estimateReaches, nearWhole, isNear, any, estimateMarked, waitIsOver, frameMarked, replyAfter, MarkedExactly}
 use Rattle.claims.proofs.Lists.{and-l, and-r, is-true}
 use Rattle.claims.proofs.Runs.{number-is}
 
@@ -237,12 +237,12 @@ never-marked : (c : Controller) (probability : Float) (level : SpeechLevel) (nea
 unfolding isMark recommendInputVolume
 never-marked c probability level near e = clash (sym (ap isMark e) ∙ recommended-unmarked (c .control .applied) probability level c)
 
--- ---- two frames
+-- ---- three frames
 
-computed : (tenthReply 29208 ≡ mark true) × (tenthReply 29300 ≡ mark false)
+computed : (replyAfter 9 29208 ≡ mark true) × (replyAfter 9 29300 ≡ mark false) × (replyAfter 8 29208 ≡ mark false)
 unfolding listed withinOf minus less atMost within magnitudeOf Decibel.levelOf dbfs gain walk frameRecord metricsOver partialMetrics sum mean largest dropBy adaptiveDrop estimateTree pushEach frameFits reached marked after called aggregateOf countOf clippedIn mostClipped clippedRatio defaults settingsFrom withAppliedInputVolume lowerChannels analyzeInputAudio ofInt ofBits add mul div lt le
-computed = (refl, refl)
+computed = (refl, refl, refl)
 
 -- THE CLAIM
 pub marked-exactly : MarkedExactly
-marked-exactly = record { estimate = estimate-marked; frames = frames-marked; recommendations = never-marked; one-marked = computed .0; one-unmarked = computed .1 }
+marked-exactly = record { estimate = estimate-marked; frames = frames-marked; recommendations = never-marked; one-marked = computed .0; one-unmarked = computed .1; one-missing = computed .2 }

@@ -108,14 +108,14 @@ frameMarked volume samples lent c =
     c .control .used && (waitIsOver c
     && any (λ (records : List Level). estimateMarked (c .predictor .settings) records (askedOf (withAppliedInputVolume volume (c .control)))) (enteredIf true samples lent (c .predictor) .rings))
 
--- ---- two frames
+-- ---- three frames
 
--- a frame of one sample, and the reply to the tenth of ten such on a fresh controller of one channel with the default settings, whose windows are full then
+-- a frame of one sample, and the reply to one that comes after so many others like it on a fresh controller of one channel with the default settings. With the tenth its windows are full.
 abbrev pub frameOf : ℕ → Call
 frameOf sample = frame (pos 100) 1 (ofInt binary32 (pos sample) ∷ [])
 
-abbrev pub tenthReply : ℕ → Reply
-tenthReply sample = step (after (fresh (settingsFrom defaults) 1) (replicate 9 (frameOf sample))) (frameOf sample) .reply
+abbrev pub replyAfter : ℕ → ℕ → Reply
+replyAfter count sample = step (after (fresh (settingsFrom defaults) 1) (replicate count (frameOf sample))) (frameOf sample) .reply
 
 -- THE CLAIM
 pub record MarkedExactly : Type 0 where
@@ -123,6 +123,7 @@ pub record MarkedExactly : Type 0 where
   pub frames : (c : Controller) (volume samples : ℕ) (lent : List Float) → T (isAccepted (length (c .control .channels)) (pos volume) samples lent)
       → step c (frame (pos volume) samples lent) .reply ≡ mark (frameMarked volume samples lent c)
   pub recommendations : (c : Controller) (probability : Float) (level : SpeechLevel) (near : Bool) → step c (recommendation probability level) .reply ≡ mark near → ⊥
-  -- a peak at -1.000 dB is near the threshold; one of 29,300 is not, nor is its P, above the threshold, near a whole dB
-  pub one-marked : tenthReply 29208 ≡ mark true
-  pub one-unmarked : tenthReply 29300 ≡ mark false
+  -- a peak at -1.000 dB is near the threshold; one of 29,300 is not, nor is its P, above the threshold, near a whole dB; and with a frame fewer metrics are missing, and nothing is compared
+  pub one-marked : replyAfter 9 29208 ≡ mark true
+  pub one-unmarked : replyAfter 9 29300 ≡ mark false
+  pub one-missing : replyAfter 8 29208 ≡ mark false
