@@ -112,8 +112,8 @@ def types_alone(text):
     """The source without its functions, and without the lines that name them."""
     out, lines, i = [], text.split("\n"), 0
     while i < len(lines):
-        if re.match(r"(pub )?fn |impl ", lines[i]):
-            while out and out[-1].startswith("//"):
+        if re.match(r'(pub )?(extern "C" )?fn |impl ', lines[i]):
+            while out and out[-1].startswith(("//", "#[no_mangle]")):
                 out.pop()
             while lines[i] != "}":
                 i += 1
