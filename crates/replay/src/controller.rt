@@ -64,7 +64,7 @@ fn made(
 // How many samples a channel has: so many as stand before the floats, or its share of the floats.
 fn samples(s: &[u8], field: usize, n: usize, channels: usize) -> usize {
     if field > 1 {
-        return text::size(s, 1) as usize;
+        return text::natural(s, 1);
     }
     if channels < 1 {
         return 0;
@@ -90,7 +90,7 @@ fn framed(c: InputVolumeController, s: &[u8], field: usize, full: bool) -> Input
 }
 
 fn speech_level(s: &[u8]) -> SpeechLevel {
-    if text::is_negative(s, 1) {
+    if text::is_dash(s, 1) {
         return SpeechLevel::Absent;
     }
     SpeechLevel::Dbfs(text::float(s, 1))
@@ -113,6 +113,14 @@ fn recommended(
     next
 }
 
+fn dumped(c: InputVolumeController, full: bool) -> InputVolumeController
+    requires { ⌜ Good c ⌝ }
+    ensures { λ r. ⌜ Good r ⌝ }
+{
+    state::print_records(c, full);
+    c
+}
+
 // The answer to one line, by its first letter.
 pub fn answer(letter: u8, c: InputVolumeController, s: &[u8], full: bool) -> InputVolumeController
     requires { ⌜ Good c ⌝ }
@@ -128,10 +136,7 @@ pub fn answer(letter: u8, c: InputVolumeController, s: &[u8], full: bool) -> Inp
             c.handle_capture_output_used_change(text::number(s, 0) == 1),
             full,
         ),
-        b'D' => {
-            state::print_records(c, full);
-            c
-        }
+        b'D' => dumped(c, full),
         _ => c,
     }
 }

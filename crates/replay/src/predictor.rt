@@ -80,9 +80,17 @@ fn analyzed(predictor: ClippingPredictor, s: &[u8]) -> ClippingPredictor
     let answer = done.answer;
     if print::accepted(answer) {
         print::ok();
-        state::print_rings(next, b" ", 1, b"");
+        state::print_rings(next, b" ", false, b"");
     }
     next
+}
+
+fn emptied(predictor: ClippingPredictor) -> ClippingPredictor
+    requires { ⌜ Good predictor ⌝ }
+    ensures { λ r. ⌜ Good r ⌝ }
+{
+    print::ok();
+    predictor.reset()
 }
 
 fn estimated(predictor: ClippingPredictor, s: &[u8]) -> ClippingPredictor
@@ -107,10 +115,7 @@ pub fn answer(letter: u8, predictor: ClippingPredictor, s: &[u8]) -> ClippingPre
     match letter {
         b'P' => made(predictor, text::number(s, 0), config(s)),
         b'F' => analyzed(predictor, s),
-        b'X' => {
-            print::ok();
-            predictor.reset()
-        }
+        b'X' => emptied(predictor),
         b'E' => estimated(predictor, s),
         _ => predictor,
     }

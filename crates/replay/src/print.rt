@@ -13,14 +13,11 @@ pub fn text(s: &[u8]) {
     io::write_all(STDOUT_FILENO, s);
 }
 
-// What a line asks, and its letter; 0 where there is none.
+// What a line asks, and its letter.
 pub fn asked(line: &[u8]) -> u8 {
     text(line);
     text(b" => ");
-    if line.len() < 1 {
-        return 0;
-    }
-    line[0]
+    crate::text::letter(line)
 }
 
 pub fn line_feed() {

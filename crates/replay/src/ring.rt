@@ -3,6 +3,7 @@ ghost use Rattle.clipping_predictor_level_buffer.specs.Ring.{Good};
 use crate::print;
 use crate::text;
 use clipping_predictor_level_buffer::ClippingPredictorLevelBuffer;
+use clipping_predictor_level_buffer::Stored;
 use clipping_predictor_level_buffer::level::Level;
 
 // A ring of capacity 1.
@@ -37,6 +38,25 @@ fn counted(ring: ClippingPredictorLevelBuffer) -> ClippingPredictorLevelBuffer
     ring
 }
 
+fn measured(
+    ring: ClippingPredictorLevelBuffer,
+    delay: i32,
+    items: i32,
+) -> ClippingPredictorLevelBuffer
+    requires { ⌜ Good ring ⌝ }
+    ensures { λ r. ⌜ Good r ⌝ }
+{
+    print::metrics(ring.compute_partial_metrics(delay, items));
+    ring
+}
+
+fn level(s: &[u8]) -> Level {
+    Level {
+        average: text::float(s, 0),
+        max: text::float(s, 1),
+    }
+}
+
 // The answer to a line, by its first letter.
 pub fn answer(
     letter: u8,
@@ -48,15 +68,9 @@ pub fn answer(
 {
     match letter {
         b'G' => made(ring, text::number(s, 0)),
-        b'g' => counted(ring.push(Level {
-            average: text::float(s, 0),
-            max: text::float(s, 1),
-        })),
+        b'g' => counted(ring.push(level(s))),
         b'z' => counted(ring.reset()),
-        b'm' => {
-            print::metrics(ring.compute_partial_metrics(text::number(s, 0), text::number(s, 1)));
-            ring
-        }
+        b'm' => measured(ring, text::number(s, 0), text::number(s, 1)),
         _ => ring,
     }
 }

@@ -6,8 +6,8 @@ ghost use Rattle.input_volume_controller.specs.Controller.{Good};
 use crate::print;
 use clipping_predictor::ClippingPredictor;
 use clipping_predictor_level_buffer::ClippingPredictorLevelBuffer;
-use clipping_predictor_level_buffer::MAX_CAPACITY;
 use clipping_predictor_level_buffer::Stored;
+use clipping_predictor_level_buffer::level::Level;
 use input_volume_controller::Applied;
 use input_volume_controller::InputVolumeController;
 use input_volume_controller::VolumeControl;
@@ -15,24 +15,32 @@ use mono_input_volume_controller::mono::MonoInputVolumeController;
 
 // ---- rings
 
+fn print_level(level: Level) {
+    print::text(b":");
+    print::float(level.average);
+    print::text(b":");
+    print::float(level.max);
+}
+
 fn print_record(record: Stored) {
     match record {
         Stored::Missing => print::text(b""),
-        Stored::Record(level) => {
-            print::text(b":");
-            print::float(level.average);
-            print::text(b":");
-            print::float(level.max);
-        }
+        Stored::Record(level) => print_level(level),
     }
 }
 
-// How many records, and the newest of them, the oldest of those first.
-fn print_ring(ring: ClippingPredictorLevelBuffer, newest: usize)
+// So many records are shown.
+fn shown(size: usize, all: bool) -> usize {
+    if all { size } else { 1 }
+}
+
+// How many records, and the newest, or all from the oldest on.
+fn print_ring(ring: ClippingPredictorLevelBuffer, all: bool)
     requires { ⌜ GoodRing ring ⌝ }
 {
-    print::count(ring.size as u64);
-    let mut left = newest;
+    let size = ring.size;
+    print::count(size as u64);
+    let mut left = shown(size, all);
     while left > 0 {
         left -= 1;
         print_record(ring.stored_at(left));
@@ -40,7 +48,7 @@ fn print_ring(ring: ClippingPredictorLevelBuffer, newest: usize)
 }
 
 // Each ring of a predictor that is on, between two texts.
-pub fn print_rings(predictor: ClippingPredictor, before: &[u8], newest: usize, after: &[u8])
+pub fn print_rings(predictor: ClippingPredictor, before: &[u8], all: bool, after: &[u8])
     requires { ⌜ GoodPredictor predictor ⌝ }
 {
     if !predictor.settings.enabled {
@@ -50,12 +58,16 @@ pub fn print_rings(predictor: ClippingPredictor, before: &[u8], newest: usize, a
     for i in 0..channels {
         let ring = predictor.rings[i];
         print::text(before);
-        print_ring(ring, newest);
+        print_ring(ring, all);
         print::text(after);
     }
 }
 
 // ---- the rest of a controller
+
+fn bit(b: bool) -> u32 {
+    if b { 1 } else { 0 }
+}
 
 fn print_named(name: &[u8], n: u32) {
     print::text(name);
@@ -71,13 +83,13 @@ fn print_next(n: u32) {
 fn print_channel(m: MonoInputVolumeController) {
     print_named(b" m=", m.ceiling as u32);
     print_next(m.last as u32);
-    print_next(m.used as u32);
-    print_next(m.check as u32);
-    print_next(m.startup as u32);
+    print_next(bit(m.used));
+    print_next(bit(m.check));
+    print_next(bit(m.startup));
     print_next(m.volume as u32);
     print_next(m.frames);
     print_next(m.speech);
-    print_next(m.first as u32);
+    print_next(bit(m.first));
 }
 
 fn print_channels(control: VolumeControl)
@@ -103,7 +115,7 @@ fn print_pending(applied: Applied) {
 fn print_numbers(volume: u8, applied: Applied, used: bool, since: u32, controlling: usize) {
     print_named(b" v=", volume as u32);
     print_pending(applied);
-    print_named(b" c=", used as u32);
+    print_named(b" c=", bit(used));
     print_named(b" k=", since);
     print_named(b" g=", (controlling % 256) as u32);
 }
@@ -123,14 +135,14 @@ fn print_control(control: VolumeControl)
     print::text(b" r=");
 }
 
-// All that a controller holds, with so many of the newest records.
-fn print_whole(c: InputVolumeController, newest: usize)
+// All that a controller holds, with the newest records, or all of them.
+fn print_whole(c: InputVolumeController, all: bool)
     requires { ⌜ Good c ⌝ }
 {
     let control = c.control;
     print_control(control);
     let predictor = c.predictor;
-    print_rings(predictor, b"", newest, b"/");
+    print_rings(predictor, b"", all, b"/");
 }
 
 // What stands behind the answer of a call: the controller's volume, or all that it holds.
@@ -138,7 +150,7 @@ pub fn print_after(c: InputVolumeController, full: bool)
     requires { ⌜ Good c ⌝ }
 {
     if full {
-        print_whole(c, 1);
+        print_whole(c, false);
         return;
     }
     print::text(b" ");
@@ -151,9 +163,9 @@ pub fn print_records(c: InputVolumeController, full: bool)
 {
     if full {
         print::ok();
-        print_whole(c, MAX_CAPACITY);
+        print_whole(c, true);
         return;
     }
     let predictor = c.predictor;
-    print_rings(predictor, b"", MAX_CAPACITY, b"/");
+    print_rings(predictor, b"", true, b"/");
 }

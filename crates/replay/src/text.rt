@@ -3,6 +3,14 @@ ghost use mathlib.Core.Path.{_≡_};
 ghost use Prim.Native.Nat.{_-_, _≤_, _<_, _^_};
 ghost use lib.ListN.{length};
 
+// The first byte; 0 where there is none.
+pub fn letter(s: &[u8]) -> u8 {
+    if s.len() < 1 {
+        return 0;
+    }
+    s[0]
+}
+
 // 1 for a blank, and 0 for every other byte.
 fn blank(c: u8) -> usize
     ensures { λ r. ⌜ r ≤ 1 ⌝ }
@@ -31,7 +39,7 @@ fn rest(s: &[u8], at: usize) -> usize
     if at < s.len() { s.len() - at } else { 0 }
 }
 
-// The value of a digit, and 16 for what is none. A sign counts as a 0 in front.
+// The value of a digit, and 16 for what is none.
 fn digit(c: u8) -> u64
     ensures { λ r. ⌜ r ≤ 16 ⌝ }
 {
@@ -45,7 +53,7 @@ fn digit(c: u8) -> u64
             return (c - b'a') as u64 + 10;
         }
     }
-    if c == b'-' { 0 } else { 16 }
+    16
 }
 
 // A digit more, up to 2^40.
@@ -60,9 +68,10 @@ fn appended(size: u64, base: u64, d: u64) -> u64
     }
 }
 
-// The number of 32 bits that the digits in a base make from `at` on.
-fn digits(s: &[u8], at: usize, base: u64) -> u32
+// The number that the digits in a base make from `at` on.
+fn digits(s: &[u8], at: usize, base: u64) -> u64
     requires { ⌜ base ≤ 16 ⌝ }
+    ensures { λ r. ⌜ r < 2 ^ 45 ⌝ }
 {
     let mut size: u64 = 0;
     let mut i = at;
@@ -74,31 +83,50 @@ fn digits(s: &[u8], at: usize, base: u64) -> u32
         size = appended(size, base, d);
         i += 1;
     }
-    (size % 0x1_0000_0000) as u32
+    size
 }
 
-// A decimal field without its sign.
-pub fn size(s: &[u8], field: usize) -> u32 {
-    digits(s, place(s, field), 10)
+// A decimal field without a sign.
+pub fn natural(s: &[u8], field: usize) -> usize {
+    digits(s, place(s, field), 10) as usize
 }
 
-// Whether a field starts with a dash.
-pub fn is_negative(s: &[u8], field: usize) -> bool {
+// The most that fits 32 bits, where a number does not.
+fn held(size: u64) -> u32 {
+    if size > 0xffff_ffff {
+        return 0xffff_ffff;
+    }
+    size as u32
+}
+
+// A decimal field with its sign, held to the range of an i32.
+pub fn number(s: &[u8], field: usize) -> i32 {
+    let at = place(s, field);
+    if at < s.len() {
+        if s[at] == b'-' {
+            return numbers::sign::with_sign(true, held(digits(s, at + 1, 10)));
+        }
+    }
+    numbers::sign::with_sign(false, held(digits(s, at, 10)))
+}
+
+// The float whose bits the hexadecimal digits from `at` on are.
+fn float_at(s: &[u8], at: usize) -> f32 {
+    levels::bits::from_bits((digits(s, at, 16) % 0x1_0000_0000) as u32)
+}
+
+// A float, as eight hexadecimal digits.
+pub fn float(s: &[u8], field: usize) -> f32 {
+    float_at(s, place(s, field))
+}
+
+// Whether a field is a dash alone.
+pub fn is_dash(s: &[u8], field: usize) -> bool {
     let at = place(s, field);
     if at < s.len() {
         return s[at] == b'-';
     }
     false
-}
-
-// A decimal field with its sign, held to the range of an i32.
-pub fn number(s: &[u8], field: usize) -> i32 {
-    numbers::sign::with_sign(is_negative(s, field), size(s, field))
-}
-
-// A float, as eight hexadecimal digits.
-pub fn float(s: &[u8], field: usize) -> f32 {
-    levels::bits::from_bits(digits(s, place(s, field), 16))
 }
 
 // The floats of the last field, each as eight hexadecimal digits with no gap, as far as there is room; how many they are.
@@ -112,7 +140,7 @@ pub fn floats(s: &[u8], field: usize, out: &mut [f32]) -> usize
             break;
         }
         let end = i + 8;
-        out[n] = levels::bits::from_bits(digits(&s[i..end], 0, 16));
+        out[n] = float_at(&s[i..end], 0);
         n += 1;
         i = end;
     }

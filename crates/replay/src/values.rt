@@ -35,24 +35,26 @@ fn speech_error(level: f32, min: i32, max: i32) {
     }
 }
 
-// A line of one float. All other lines are answered elsewhere, or not at all.
+// A line of one float.
 fn of_float(letter: u8, x: f32) {
     match letter {
         b'w' => print::number(levels::rounding::round(x)),
         b'a' => print::float(levels::parts::magnitude(x)),
         b'd' => print::decibels(levels::level::peak_level(x)),
         b'h' => print::decibels(levels::level::mean_square_level(x)),
-        b'L' => print::decibels(levels::level::float_s16_to_dbfs(x)),
-        _ => print::text(b""),
+        _ => print::decibels(levels::level::float_s16_to_dbfs(x)),
     }
 }
 
-// The answer to a line, by its first letter.
+// The answer to a line, by its first letter. Some are answered elsewhere, and 0 is that of an empty line.
 pub fn answer(letter: u8, s: &[u8]) {
     match letter {
         b'S' => volume_step(s),
         b'Q' => speech_error(text::float(s, 0), text::number(s, 1), text::number(s, 2)),
+        b'w' | b'a' | b'd' | b'h' | b'L' => of_float(letter, text::float(s, 0)),
         b'V' => print::ok(),
-        _ => of_float(letter, text::float(s, 0)),
+        b'G' | b'g' | b'z' | b'm' | b'P' | b'F' | b'X' | b'E' => print::text(b""),
+        b'N' | b'A' | b'B' | b'R' | b'I' | b'C' | b'D' | 0 => print::text(b""),
+        _ => print::text(b"unknown"),
     }
 }

@@ -5,13 +5,16 @@ use Rattle.replay.proofs.state.print_ring.Statement.{statement}
 use Rattle.replay.proofs.state.print_ring.Tie as tie
 
 abbrev Inv-loop : tie.InvT-loop
-Inv-loop ring newest left₀ left = Good ring
+Inv-loop ring all size left₀ left = Good ring
 
 abbrev μ-loop : tie.MeasureT-loop
-μ-loop ring newest left₀ left = left
+μ-loop ring all size left₀ left = left
 
 count-requires : tie.Need-count-requires Inv-loop μ-loop
 count-requires c κs = search needs
+
+shown-requires : tie.Need-shown-requires Inv-loop μ-loop
+shown-requires c κs = search needs
 
 loop-holds : tie.Need-loop-holds Inv-loop μ-loop
 loop-holds c = search needs
@@ -41,6 +44,7 @@ print-ring-spec =
     Inv-loop
     μ-loop
     count-requires
+    shown-requires
     loop-holds
     sub-left
     stored-at-requires

@@ -6,10 +6,10 @@ use Rattle.replay.proofs.state.print_rings.Statement.{statement}
 use Rattle.replay.proofs.state.print_rings.Tie as tie
 
 abbrev Inv-loop : tie.InvT-loop
-Inv-loop before newest after predictor channels i₀ i = i ≤ channels
+Inv-loop before all after predictor channels i₀ i = i ≤ channels
 
 abbrev μ-loop : tie.MeasureT-loop
-μ-loop before newest after predictor channels i₀ i = channels - i
+μ-loop before all after predictor channels i₀ i = channels - i
 
 returns : tie.Need-returns Inv-loop μ-loop
 returns c = search needs

@@ -32,11 +32,11 @@ loop-less c = search needs
 loop-again : tie.Need-loop-again Inv-loop μ-loop
 loop-again c = search needs
 
-cast-result : tie.Need-cast-result Inv-loop μ-loop
-cast-result c = search needs
-
 returns : tie.Need-returns Inv-loop μ-loop
 returns c = search needs
+
+returns-2 : tie.Need-returns-2 Inv-loop μ-loop
+returns-2 c = search needs
 
 pub digits-spec : {M : Type 1} → statement M
 digits-spec =
@@ -51,5 +51,5 @@ digits-spec =
     add-i
     loop-less
     loop-again
-    cast-result
-    returns)
+    returns
+    returns-2)

@@ -25,20 +25,17 @@ rest-requires c κs = search needs
 add-end : tie.Need-add-end Inv-loop μ-loop
 add-end c = search needs
 
-sub-digits : tie.Need-sub-digits Inv-loop μ-loop
-sub-digits c = search needs
+sub-float-at : tie.Need-sub-float-at Inv-loop μ-loop
+sub-float-at c = search needs
 
-part-digits-start : tie.Need-part-digits-start Inv-loop μ-loop
-part-digits-start c = search needs
+part-float-at-start : tie.Need-part-float-at-start Inv-loop μ-loop
+part-float-at-start c = search needs
 
-part-digits-end : tie.Need-part-digits-end Inv-loop μ-loop
-part-digits-end c = search needs
+part-float-at-end : tie.Need-part-float-at-end Inv-loop μ-loop
+part-float-at-end c = search needs
 
-digits-requires : tie.Need-digits-requires Inv-loop μ-loop
-digits-requires c κs = search needs
-
-from-bits-requires : tie.Need-from-bits-requires Inv-loop μ-loop
-from-bits-requires c κs = search needs
+float-at-requires : tie.Need-float-at-requires Inv-loop μ-loop
+float-at-requires c κs = search needs
 
 mul-out : tie.Need-mul-out Inv-loop μ-loop
 mul-out c = search needs
@@ -77,11 +74,10 @@ floats-spec =
     loop-holds
     rest-requires
     add-end
-    sub-digits
-    part-digits-start
-    part-digits-end
-    digits-requires
-    from-bits-requires
+    sub-float-at
+    part-float-at-start
+    part-float-at-end
+    float-at-requires
     mul-out
     slice-write-out
     add-n

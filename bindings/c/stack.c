@@ -1,0 +1,115 @@
+/* The stack that each call needs: it is made on a thread whose stack was painted, and what is no longer paint was used. No proof bounds it, so this is a measurement:
+ * random frames, settings and levels, the most that was seen. Fails where a call needs more than the header says. */
+#define _GNU_SOURCE
+#include <pthread.h>
+#include <stdio.h>
+#include <stdlib.h>
+#include <string.h>
+
+#include "agc2.h"
+
+enum { SIZE = 1 << 18, PAINT = 0xa5 };
+
+static unsigned char *stack;
+static long depth;
+
+static agc2_controller controller;
+static agc2_config config;
+static float samples[AGC2_MAX_CHANNELS * AGC2_MAX_SAMPLES_PER_CHANNEL];
+static int32_t channels, volume, recommended;
+static size_t samples_per_channel;
+static float level;
+static volatile uint32_t sink;
+
+/* ---- the calls */
+
+__attribute__((noinline)) static void made(void) { sink = agc2_new(&controller, channels, config); }
+
+__attribute__((noinline)) static void framed(void) {
+    sink = agc2_analyze_input_audio(&controller, volume, samples_per_channel, samples, (size_t)channels * AGC2_MAX_SAMPLES_PER_CHANNEL);
+}
+
+__attribute__((noinline)) static void recommend(void) { sink = agc2_recommend_input_volume(&controller, 1.0f, &level, &recommended); }
+
+__attribute__((noinline)) static void initialized(void) { agc2_initialize(&controller); }
+
+__attribute__((noinline)) static void switched(void) { agc2_handle_capture_output_used_change(&controller, rand() % 3 != 0); }
+
+__attribute__((noinline)) static void stored(void) { sink = agc2_stored_record(&controller, 0, 0).present; }
+
+/* ---- one call on a painted stack */
+
+typedef void (*call)(void);
+
+static void *run(void *f) {
+    unsigned char *top = __builtin_frame_address(0);
+    (*(call *)f)();
+    long i = 0;
+    while (stack[i] == PAINT) {
+        i++;
+    }
+    depth = top - (stack + i);
+    return NULL;
+}
+
+static void most(long *seen, call f) {
+    memset(stack, PAINT, SIZE);
+    pthread_attr_t painted;
+    pthread_attr_init(&painted);
+    pthread_attr_setstack(&painted, stack, SIZE);
+    pthread_t thread;
+    pthread_create(&thread, &painted, run, &f);
+    pthread_join(thread, NULL);
+    if (depth > *seen) {
+        *seen = depth;
+    }
+}
+
+/* ---- random calls */
+
+enum { NEW, FRAME, RECOMMEND, INITIALIZE, SWITCH, STORED, CALLS };
+
+static void settings(void) {
+    channels = 1 + rand() % AGC2_MAX_CHANNELS;
+    config = agc2_default_config();
+    config.clipped_wait_frames = rand() % 3;
+    config.update_input_volume_wait_frames = rand() % 4;
+    config.enable_clipping_predictor = (uint32_t)(rand() % 5);
+}
+
+static void sound(void) {
+    float peak = rand() % 4 != 0 ? 29300.0f + (float)(rand() % 3000) : 33000.0f;
+    int apart = 1 + rand() % 400;
+    for (int i = 0; i < AGC2_MAX_CHANNELS * AGC2_MAX_SAMPLES_PER_CHANNEL; i++) {
+        samples[i] = i % apart != 0 ? (float)(rand() % 200) : peak;
+    }
+    volume = rand() % 10 != 0 ? 200 : rand() % 257;
+    samples_per_channel = rand() % 10 != 0 ? 480 : 479;
+    level = (float)(rand() % 90) - 80.0f;
+}
+
+int main(void) {
+    static const char *const names[CALLS] = {"agc2_new", "a frame", "a recommendation", "initialise", "the capture switch", "agc2_stored_record"};
+    static const long bounds[CALLS] = {9800, 15700, 2300, 2300, 2300, 9800};
+    long seen[CALLS] = {0};
+    stack = aligned_alloc(4096, SIZE);
+    srand(7);
+    for (int round = 0; round < 100; round++) {
+        settings();
+        most(&seen[NEW], made);
+        for (int n = 0; n < 40; n++) {
+            sound();
+            most(&seen[FRAME], framed);
+            most(&seen[RECOMMEND], recommend);
+        }
+        most(&seen[INITIALIZE], initialized);
+        most(&seen[SWITCH], switched);
+        most(&seen[STORED], stored);
+    }
+    int wrong = 0;
+    for (int i = 0; i < CALLS; i++) {
+        printf("stack: %s, %ld bytes%s\n", names[i], seen[i], seen[i] > bounds[i] ? ", MORE THAN THE HEADER SAYS" : "");
+        wrong += seen[i] > bounds[i];
+    }
+    return wrong != 0;
+}
