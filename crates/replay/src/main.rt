@@ -14,6 +14,7 @@
 //     A volume floats   B volume samples floats   a frame; a frame that says how many samples a channel has
 //     R probability level   I   C switch   D   a recommendation; initialise; the capture switch; all records
 //     V                                 from here on, all of the controller's state after each of its calls
+//     # name                            what the line before shows; no answer
 //
 // A ring, a predictor and a controller are kept from line to line, each by itself. Every line is handed to all of them, and one answers it.
 mod controller;

@@ -46,7 +46,7 @@ fn of_float(letter: u8, x: f32) {
     }
 }
 
-// The answer to a line, by its first letter. Some are answered elsewhere, and 0 is that of an empty line.
+// The answer to a line, by its first letter. Some are answered elsewhere, a name has none, and 0 is the letter of an empty line.
 pub fn answer(letter: u8, s: &[u8]) {
     match letter {
         b'S' => volume_step(s),
@@ -54,7 +54,7 @@ pub fn answer(letter: u8, s: &[u8]) {
         b'w' | b'a' | b'd' | b'h' | b'L' => of_float(letter, text::float(s, 0)),
         b'V' => print::ok(),
         b'G' | b'g' | b'z' | b'm' | b'P' | b'F' | b'X' | b'E' => print::text(b""),
-        b'N' | b'A' | b'B' | b'R' | b'I' | b'C' | b'D' | 0 => print::text(b""),
+        b'N' | b'A' | b'B' | b'R' | b'I' | b'C' | b'D' | b'#' | 0 => print::text(b""),
         _ => print::text(b"unknown"),
     }
 }
