@@ -10,6 +10,8 @@ FACTS = [
     # a term does not have the type that is asked for: the two, and where they part ("where one has `15` (expected) and the other has `14` (found)")
     r"the two (types|sides|values|indices) (first |only )?(differ|are)",
     r"expected type `.*but this has type",
+    # the same at an end of a path
+    r"on the face `.*` this λ's body is .*requires",
     # the same, seen when the value of a `_` was known
     r"≟ .*does not hold",
     # `omega`: a counterexample, values at which all that it read holds and its goal does not

@@ -14,7 +14,8 @@ use Rattle.numbers.specs.declared.natural.Natural.the-variants.{Number, Outside
 use Rattle.numbers.specs.Natural.{withinOf}
 use Rattle.numbers.specs.Said.{refusalIn}
 use Rattle.clipping_predictor.specs.Estimate.{estimateTree, estimated}
-use Rattle.clipping_predictor.specs.Predictor.{Predictor, dropOr, givenIf, given, argumentsOf, estimateSays, estimateOf}
+use Rattle.clipping_predictor.specs.Predictor.{Predictor}
+use Rattle.clipping_predictor.specs.EstimateCall.{dropOr, givenIf, given, argumentsOf, estimateSays, estimateOf}
 use Rattle.clipping_predictor.specs.declared.modes.Asked.{Asked}
 use Rattle.claims.specs.Causes.{Cause, firstOf, outside}
 use Rattle.claims.specs.RefusedBelow.{estimateCauses}

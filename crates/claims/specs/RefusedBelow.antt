@@ -20,7 +20,8 @@ use Rattle.clipping_predictor_level_buffer.specs.Level.{measuredSays, measureOf
 use Rattle.clipping_predictor_level_buffer.specs.Making as Ring
 use Rattle.clipping_predictor_level_buffer.specs.Metrics.{metricsSays, computePartialMetrics}
 use Rattle.clipping_predictor.specs.declared.settings.ClippingPredictorConfig.{ClippingPredictorConfig}
-use Rattle.clipping_predictor.specs.Predictor.{Predictor, makingOf, frameFits, outcomeIf, enteredIf, argumentsOf, estimateSays, estimateOf}
+use Rattle.clipping_predictor.specs.Predictor.{Predictor, makingOf, frameFits, outcomeIf, enteredIf}
+use Rattle.clipping_predictor.specs.EstimateCall.{argumentsOf, estimateSays, estimateOf}
 use Rattle.mono_input_volume_controller.specs.declared.speech_level.SpeechLevel.{SpeechLevel}
 use Rattle.mono_input_volume_controller.specs.SpeechError.{speechErrorSays, speechErrorOf}
 use Rattle.claims.specs.Causes.{Cause, firstOf, outside}

@@ -13,7 +13,7 @@ use Rattle.numbers.specs.Natural.{withinOf}
 use Rattle.numbers.proofs.Ranges.{told}
 use Rattle.clipping_predictor.specs.declared.modes.Asked.{Asked}
 use Rattle.clipping_predictor.specs.declared.Arguments.the-variants.{Given, Refused}
-use Rattle.clipping_predictor.specs.Predictor.{givenIf, given, argumentsOf}
+use Rattle.clipping_predictor.specs.EstimateCall.{givenIf, given, argumentsOf}
 
 module _ (least most level channel : ℕ) (a : Asked) where
   pub ends-crossed : most < least → Refused EstimateRange ≡ givenIf (leb least most && leb level most) channel a

@@ -10,7 +10,7 @@ use Rattle.clipping_predictor.specs.declared.settings.Checked.the-varian
 use Rattle.clipping_predictor.specs.declared.Estimate.{Estimate}
 use Rattle.clipping_predictor.specs.declared.Estimate.the-variants as Estimate
 use Rattle.clipping_predictor.specs.Settings.{checkedSays}
-use Rattle.clipping_predictor.specs.Predictor.{DropAndMark, estimateSays}
+use Rattle.clipping_predictor.specs.EstimateCall.{DropAndMark, estimateSays}
 
 checked-back : (c : Checked) → answerOf Checked.InOrder Checked.Refused (checkedSays c) ≡ c
 checked-back (Checked.InOrder s) = refl

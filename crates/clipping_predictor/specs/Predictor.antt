@@ -1,9 +1,8 @@
 -- Document 01, "Ring and predictors": a predictor as its settings and, for each channel, the list of its stored records, newest first; and its calls. Definitions only.
 use mathlib.Core.Path.{_≡_}
-use Prim.Native.Nat.{ℕ, zero, suc, _-_, _*_, _≤_, _<_}
+use Prim.Native.Nat.{ℕ, _*_, _≤_, _<_}
 use mathlib.Core.Bool.{Bool, true, false, _&&_}
 use mathlib.Core.List.{List, [], _∷_, map}
-use mathlib.Core.Option.{Option, none, some}
 use lib.Dec.{leb, eqb}
 use lib.IntN.{ℤ, pos}
 use lib.Ieee.{Float}
@@ -14,10 +13,9 @@ use Rattle.numbers.specs.declared.natural.Natural.the-variants.{Number, Outside
 use Rattle.numbers.specs.declared.refusal.Outcome.{Outcome}
 use Rattle.numbers.specs.declared.refusal.Outcome.the-variants.{Accepted, Refused}
 use Rattle.numbers.specs.declared.refusal.Refusal.{Refusal}
-use Rattle.numbers.specs.declared.refusal.Refusal.the-variants.{ChannelCount, InputVolume, FrameSize, EstimateRange}
+use Rattle.numbers.specs.declared.refusal.Refusal.the-variants.{ChannelCount, FrameSize}
 use Rattle.numbers.specs.Natural.{withinOf}
-use Rattle.numbers.specs.Refusal.{numberOf}
-use Rattle.numbers.specs.Said.{Said, accepted, refused, outcomeSays}
+use Rattle.numbers.specs.Said.{outcomeSays}
 use Rattle.clipping_predictor_level_buffer.specs.declared.level.Level.{Level}
 use Rattle.clipping_predictor_level_buffer.specs.declared.ClippingPredictorLevelBuffer.{ClippingPredictorLevelBuffer}
 use Rattle.clipping_predictor_level_buffer.specs.Level.{maxSamplesPerChannel, frameRecord}
@@ -27,18 +25,12 @@ use Rattle.clipping_predictor.specs.declared.settings.ClippingPredictorC
 use Rattle.clipping_predictor.specs.declared.settings.Settings.{Settings}
 use Rattle.clipping_predictor.specs.declared.settings.Checked.{Checked}
 use Rattle.clipping_predictor.specs.declared.settings.Checked.the-variants as Checked
-use Rattle.clipping_predictor.specs.declared.modes.Asked.{Asked}
-use Rattle.clipping_predictor.specs.declared.modes.Estimated.{Estimated}
 use Rattle.clipping_predictor.specs.declared.ClippingPredictor.{ClippingPredictor}
 use Rattle.clipping_predictor.specs.declared.Created.{Created}
 use Rattle.clipping_predictor.specs.declared.Analyzed.{Analyzed}
-use Rattle.clipping_predictor.specs.declared.Arguments.{Arguments}
-use Rattle.clipping_predictor.specs.declared.Arguments.the-variants as Arguments
-use Rattle.clipping_predictor.specs.declared.Estimate.{Estimate}
-use Rattle.clipping_predictor.specs.declared.Estimate.the-variants as Estimate
 use Rattle.clipping_predictor.specs.Settings.{settingsOf}
 use Rattle.clipping_predictor.specs.Settings as Settings
-use Rattle.clipping_predictor.specs.Estimate.{capacityOf, estimateTree, estimated}
+use Rattle.clipping_predictor.specs.Estimate.{capacityOf}
 use Rattle.clipping_predictor.specs.GoodFor.{GoodFor}
 
 -- "channel count not 1 to 8" is refused
@@ -158,45 +150,3 @@ emptied p = record { settings = p .settings; rings = map (λ r. []) (p .rings) }
 pub record ResetOf (p r : ClippingPredictor) : Type 0 where
   pub good : Good r
   pub view : viewOf r ≡ emptied (viewOf p)
-
--- ---- estimates: causes 8 and 10
-
--- how far the level is to fall, or none, and the mark
-pub record DropAndMark : Type 0 where
-  pub drop : Option ℤ
-  pub near : Bool
-
--- document 01's number and values for each case of the answer
-abbrev pub estimateSays : Estimate → Said DropAndMark
-estimateSays (Estimate.Drop drop near) = accepted (record { drop = some drop; near = near })
-estimateSays (Estimate.Nothing near) = accepted (record { drop = none; near = near })
-estimateSays (Estimate.Refused cause) = refused (numberOf cause)
-
-abbrev pub givenIf : Bool → ℕ → Asked → Arguments
-givenIf true channel a = Arguments.Given channel a
-givenIf false channel a = Arguments.Refused EstimateRange
-
-unfoldable pub given : Natural → Natural → Natural → Natural → Natural → Arguments
-given Outside channel step least most = Arguments.Refused InputVolume
-given (Number level) Outside step least most = Arguments.Refused EstimateRange
-given (Number level) (Number channel) Outside least most = Arguments.Refused EstimateRange
-given (Number level) (Number channel) (Number step) Outside most = Arguments.Refused EstimateRange
-given (Number level) (Number channel) (Number step) (Number least) Outside = Arguments.Refused EstimateRange
-given (Number level) (Number channel) (Number step) (Number least) (Number most) =
-    givenIf (leb least most && leb level most) channel (record { level = level; step = step; least = least; most = most })
-
-unfoldable pub argumentsOf : ℕ → ℤ → ℤ → ℤ → ℤ → ℤ → Arguments
-argumentsOf channels channel level step least most =
-    given (withinOf 0 255 level) (withinOf 0 (channels - 1) channel) (withinOf 1 255 step) (withinOf 0 255 least) (withinOf 0 255 most)
-
--- "the drop is the step if above 0"
-abbrev pub dropOr : ℕ → Bool → Estimate
-dropOr zero near = Estimate.Nothing near
-dropOr (suc n) near = Estimate.Drop (pos (suc n)) near
-
-abbrev pub answered : Estimated → Estimate
-answered e = dropOr (e .drop) (e .near)
-
-unfoldable pub estimateOf : Predictor → Arguments → Estimate
-estimateOf p (Arguments.Refused cause) = Estimate.Refused cause
-estimateOf p (Arguments.Given channel a) = answered (estimated (estimateTree (p .settings) (getD (p .rings) channel []) a))

@@ -7,7 +7,7 @@ use lib.IntN.{ℤ, pos}
 use mir.Syntax.{w32}
 use mir.ValLaws.{toZ-pos}
 use Rattle.clipping_predictor.specs.declared.Estimate.the-variants.{Drop}
-use Rattle.clipping_predictor.specs.Predictor.{dropOr}
+use Rattle.clipping_predictor.specs.EstimateCall.{dropOr}
 use borrow.Author.Needs.{needs}
 use Rattle.clipping_predictor.proofs.answer_of.Statement.{statement}
 use Rattle.clipping_predictor.proofs.answer_of.Tie as tie

@@ -7,7 +7,7 @@ use mir.ValLaws.{toZ-ofZ}
 use Rattle.numbers.specs.declared.natural.Natural.the-variants.{Number, Outside}
 use Rattle.numbers.specs.Natural.{withinOf}
 use Rattle.numbers.proofs.Ranges.{told}
-use Rattle.clipping_predictor.specs.Predictor.{argumentsOf, given}
+use Rattle.clipping_predictor.specs.EstimateCall.{argumentsOf, given}
 use Rattle.clipping_predictor.proofs.Given.{ends-crossed, level-above, in-range}
 use borrow.Author.Needs.{needs}
 use Rattle.clipping_predictor.proofs.arguments_in_range.Statement.{statement}

@@ -11,7 +11,8 @@ use Rattle.clipping_predictor_level_buffer.specs.Ring.{stored}
 use Rattle.clipping_predictor.specs.declared.Arguments.{Arguments}
 use Rattle.clipping_predictor.specs.declared.Arguments.the-variants.{Given}
 use Rattle.clipping_predictor.specs.Estimate.{estimateTree, estimated}
-use Rattle.clipping_predictor.specs.Predictor.{ringAt, viewOf, argumentsOf, answered, estimateSays, estimateOf}
+use Rattle.clipping_predictor.specs.Predictor.{ringAt, viewOf}
+use Rattle.clipping_predictor.specs.EstimateCall.{argumentsOf, answered, estimateSays, estimateOf}
 use Rattle.clipping_predictor.proofs.Given.{channel-below}
 use borrow.Author.Needs.{needs}
 use Rattle.clipping_predictor.proofs.ClippingPredictor.estimate_clipped_level_step.Statement.{statement}
