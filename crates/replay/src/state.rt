@@ -12,6 +12,7 @@ use input_volume_controller::Applied;
 use input_volume_controller::InputVolumeController;
 use input_volume_controller::VolumeControl;
 use mono_input_volume_controller::mono::MonoInputVolumeController;
+use numbers::flag::flag_of;
 
 // ---- rings
 
@@ -65,10 +66,6 @@ pub fn print_rings(predictor: ClippingPredictor, before: &[u8], all: bool, after
 
 // ---- the rest of a controller
 
-fn bit(b: bool) -> u32 {
-    if b { 1 } else { 0 }
-}
-
 fn print_named(name: &[u8], n: u32) {
     print::text(name);
     print::count(n as u64);
@@ -83,13 +80,13 @@ fn print_next(n: u32) {
 fn print_channel(m: MonoInputVolumeController) {
     print_named(b" m=", m.ceiling as u32);
     print_next(m.last as u32);
-    print_next(bit(m.used));
-    print_next(bit(m.check));
-    print_next(bit(m.startup));
+    print_next(flag_of(m.used));
+    print_next(flag_of(m.check));
+    print_next(flag_of(m.startup));
     print_next(m.volume as u32);
     print_next(m.frames);
     print_next(m.speech);
-    print_next(bit(m.first));
+    print_next(flag_of(m.first));
 }
 
 fn print_channels(control: VolumeControl)
@@ -115,7 +112,7 @@ fn print_pending(applied: Applied) {
 fn print_numbers(volume: u8, applied: Applied, used: bool, since: u32, controlling: usize) {
     print_named(b" v=", volume as u32);
     print_pending(applied);
-    print_named(b" c=", bit(used));
+    print_named(b" c=", flag_of(used));
     print_named(b" k=", since);
     print_named(b" g=", (controlling % 256) as u32);
 }
