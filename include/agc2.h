@@ -17,7 +17,7 @@
  * must be one that agc2_new accepted and that nobody else wrote to. A controller has no pointer in it and may be copied and moved; two threads must not use one at once.
  * The proofs take floats to work as they do by default: rounded to nearest, with no subnormal number flushed to zero.
  *
- * The stack that a call needs, as measured with clang and gcc at -O0 and -O2: 15.7 KB for a frame, 9.8 KB for agc2_new and agc2_stored_record, 2.3 KB for any other (bindings/c/stack.c); where memcpy
+ * The stack that a call needs, as measured with clang and gcc at -O0 and -O2: 15 KB for a frame, 9.8 KB for agc2_new and agc2_stored_record, 1.9 KB for any other (bindings/c/stack.c); where memcpy
  * is bound late, the first call needs 3 KB more. */
 #ifndef AGC2_H
 #define AGC2_H

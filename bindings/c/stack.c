@@ -90,7 +90,7 @@ static void sound(void) {
 
 int main(void) {
     static const char *const names[CALLS] = {"agc2_new", "a frame", "a recommendation", "initialise", "the capture switch", "agc2_stored_record"};
-    static const long bounds[CALLS] = {9800, 15700, 2300, 2300, 2300, 9800};
+    static const long bounds[CALLS] = {9800, 15000, 1900, 1900, 1900, 9800};
     long seen[CALLS] = {0};
     stack = aligned_alloc(4096, SIZE);
     srand(7);

@@ -1,13 +1,10 @@
--- The rules of the gain table, each a test that is computed over the whole table and then carried to every entry, and what the machine makes of two gains. Assumes nothing.
-use mathlib.Core.Path.{_≡_, refl, sym, ap, subst, _∙_}
-use Prim.Native.Nat.{ℕ, _^_, _≤_, _<_}
-use native.Mathlib.Omega.{arith}
+-- The rules of the gain table, each a test that is computed over the whole table and then carried to every entry. Assumes nothing.
+use mathlib.Core.Path.{_≡_, refl}
+use Prim.Native.Nat.{ℕ, _≤_, _<_}
 use lib.Dec.{leb, leb→le}
-use lib.IntN.{ℤ, pos, negsuc, natAbs, _-ℤ_}
-use lib.Signed.{mag, leZ, leZ-yes, _≤ℤ_, ≤ℤ-refl}
-use mir.Syntax.{w32}
-use mir.Val.{SFits}
-use Rattle.numbers.proofs.Signs.{≤ℤ-trans, difference-abs, mag-abs, read, small, again}
+use lib.IntN.{pos, negsuc, natAbs}
+use lib.Signed.{leZ, leZ-yes, _≤ℤ_, ≤ℤ-refl}
+use Rattle.numbers.proofs.Signs.{≤ℤ-trans}
 use Rattle.numbers.proofs.Tables.{at-each, in-order}
 use Rattle.gain_map.specs.GainMap.{gainMap, gain}
 
@@ -25,24 +22,3 @@ ends = (refl, refl)
 pub gain-size : (v : ℕ) → v < 256 → natAbs (gain v) ≤ 64
 unfolding gain gainMap
 gain-size v h = leb→le (natAbs (gain v)) 64 (at-each (pos 0) (λ z. leb (natAbs z) 64) gainMap tt v h)
-
--- ---- the machine's numbers
-
-pub gain-again : (v : ℕ) → v < 256 → read (gain v) ≡ gain v
-gain-again v h = again (gain v) (omega (arith, gain-size v h, mag-abs (gain v)))
-
--- g - f as the machine computes it does not wrap, and the machine reads d back
-pub record Subtracted (g f d : ℤ) : Type 0 where
-  pub fits : SFits w32 (read g -ℤ read f)
-  pub is : read (read g -ℤ read f) ≡ d
-
--- so it is with two gains that a call gave
-module _ (v b : ℕ) (h : v < 256) (k : b < 256) (g f : ℤ) (p : g ≡ gain v) (q : f ≡ gain b) where
-  same : read g -ℤ read f ≡ gain v -ℤ gain b
-  same = (λ i. read (p i) -ℤ read (q i)) ∙ (λ i. gain-again v h i -ℤ gain-again b k i)
-
-  short : mag (gain v -ℤ gain b) < 2 ^ 31
-  short = omega (arith, gain-size v h, gain-size b k, difference-abs (gain v) (gain b), mag-abs (gain v -ℤ gain b))
-
-  pub subtracted : Subtracted g f (gain v -ℤ gain b)
-  subtracted = record { fits = subst (SFits w32) (sym same) (small short); is = ap read same ∙ again (gain v -ℤ gain b) short }

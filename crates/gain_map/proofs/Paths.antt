@@ -3,7 +3,7 @@ use mathlib.Core.Path.{_≡_, refl, sym}
 use mathlib.Core.Bool.{true, false}
 use Prim.Native.Nat.{ℕ, zero, suc, _≤_, _<_}
 use native.Mathlib.Omega.{arith}
-use lib.IntN.{ℤ, pos, negsuc}
+use lib.IntN.{ℤ, pos, negsuc, negℤ, natAbs}
 use lib.Signed.{ltZ}
 use borrow.Author.Tests.{le-leb, lt-leb, ltb-true, ltb-false}
 use Rattle.numbers.specs.declared.natural.Natural.the-variants.{Number, Outside}
@@ -13,15 +13,15 @@ use Rattle.numbers.proofs.Signs.{clash}
 use Rattle.gain_map.specs.declared.VolumeUpdate.the-variants.{Volume, Refused}
 use Rattle.gain_map.specs.VolumeUpdate.{rise, fall, walk, stepped, volumeUpdateOf}
 
--- ---- the walk, by the sign of the wanted change
+-- ---- the walk, by the sign of the wanted change, which the two walks take without its sign
 module _ (volume min max : ℕ) where
-  pub walk-up : (z : ℤ) → ltZ (pos 0) z ≡ true → rise z volume max ≡ walk z volume min max
+  pub walk-up : (z : ℤ) → ltZ (pos 0) z ≡ true → rise (pos (natAbs z)) volume max ≡ walk z volume min max
   unfolding walk
   walk-up (pos zero) t = clash (sym t)
   walk-up (pos (suc n)) t = refl
   walk-up (negsuc n) t = clash (sym t)
 
-  pub walk-down : (z : ℤ) → ltZ z (pos 0) ≡ true → fall z volume min ≡ walk z volume min max
+  pub walk-down : (z : ℤ) → ltZ z (pos 0) ≡ true → fall (negℤ (pos (natAbs z))) volume min ≡ walk z volume min max
   unfolding walk
   walk-down (pos n) t = let h = ltb-true n 0 t in absurd (omega arith)
   walk-down (negsuc n) t = refl

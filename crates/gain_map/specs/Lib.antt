@@ -1,2 +1,3 @@
 pub mod GainMap
+pub mod Differences
 pub mod VolumeUpdate

@@ -1,45 +1,38 @@
 -- `gain_map::rise_from` meets its contract: each volume that it passes has not risen enough, so it stops at the first that has, or at the end. Assumes nothing.
-use mathlib.Core.Path.{_≡_, sym, ap, _∙_}
+use mathlib.Core.Path.{_∙_}
 use Prim.Native.Nat.{_+_, _-_}
 use native.Mathlib.Omega.{arith}
 use borrow.Author.Needs.{needs}
-use lib.IntN.{ℤ, _-ℤ_}
+use lib.IntN.{pos, _-ℤ_}
 use lib.Signed.{leZ}
-use mir.Syntax.{w32}
-use mir.Val.{toZ}
-use mir.ValLaws.{toZ-ofZ}
-use Rattle.numbers.proofs.Signs.{read}
+use borrow.Author.Tests.{le-leb, lt-leb}
 use Rattle.numbers.proofs.Loops.{Walked, starts, goes-on, stops-at-end, stops-here}
 use Rattle.gain_map.specs.GainMap.{gain}
 use Rattle.gain_map.specs.VolumeUpdate.{rise}
-use Rattle.gain_map.proofs.GainTable.{Subtracted, subtracted}
+use Rattle.gain_map.proofs.Differences.{Apart, none, one-up, small-sum, risen-by}
 use Rattle.gain_map.proofs.rise_from.Statement.{statement}
 use Rattle.gain_map.proofs.rise_from.Tie as tie
 
 abbrev Inv-loop : tie.InvT-loop
-Inv-loop wanted base max from volume₀ volume =
-    Walked (λ k. base + k) (λ u. leZ (toZ w32 wanted) (gain u -ℤ gain base)) (max - base) volume
+Inv-loop wanted base max volume₀ risen₀ volume risen =
+    Walked (λ k. base + k) (λ u. leZ (pos wanted) (gain u -ℤ gain base)) (max - base) volume × Apart base volume risen
 
 abbrev μ-loop : tie.MeasureT-loop
-μ-loop wanted base max from volume₀ volume = max - volume
-
-gain-at-requires : tie.Need-gain-at-requires Inv-loop μ-loop
-gain-at-requires c κs = search needs
+μ-loop wanted base max volume₀ risen₀ volume risen = max - volume
 
 loop-holds : tie.Need-loop-holds Inv-loop μ-loop
-loop-holds c = starts (omega arith)
+loop-holds c = (starts (omega arith), none (c .args .base))
 
-gain-at-requires-2 : tie.Need-gain-at-requires-2 Inv-loop μ-loop
-gain-at-requires-2 c κs = search needs
+difference-above-requires : tie.Need-difference-above-requires Inv-loop μ-loop
+difference-above-requires c κs = search needs
 
--- the loop's test is of the table's difference
-difference : (c : tie.After-gain-at2 Inv-loop μ-loop)
-    → Subtracted (c .gain-at2 .result) (c .before .before .before .gain-at .result)
-    (gain (c .before .before .loop .volume) -ℤ gain (c .before .before .before .before .args .base))
-difference c = subtracted _ _ (omega arith) (omega arith) _ _ (c .gain-at2 .ensures) (c .before .before .before .gain-at .ensures)
+-- the sum with the next difference is that of the next volume
+next-risen : (c : tie.After-difference-above Inv-loop μ-loop)
+    → Apart (c .before .before .before .before .args .base) (c .before .before .before .loop .volume + 1) (c .before .before .before .loop .risen + c .difference-above .result)
+next-risen c = one-up (c .before .before .before .loop .inv .1) (omega arith) (c .difference-above .ensures)
 
-sub-if2 : tie.Need-sub-if2 Inv-loop μ-loop
-sub-if2 c = difference c .fits
+add-risen : tie.Need-add-risen Inv-loop μ-loop
+add-risen c = record { fits = omega (arith, small-sum (next-risen c) (omega arith) (omega arith)) }
 
 add-volume : tie.Need-add-volume Inv-loop μ-loop
 add-volume c = omega arith
@@ -50,21 +43,17 @@ loop-less c = omega arith
 loop-again : tie.Need-loop-again Inv-loop μ-loop
 loop-again c =
     let s = c .before .before .before in
-    goes-on (s .loop .inv) (omega arith) (ap (leZ (read (s .before .before .args .wanted))) (sym (difference (c .before) .is)) ∙ c .if2 .left) (omega arith)
-
--- the rise by the wanted change as the machine reads it back
-back : (c : tie.Start Inv-loop μ-loop) → rise (read (c .args .wanted)) (c .args .base) (c .args .max) ≡ rise (c .args .wanted) (c .args .base) (c .args .max)
-back c = ap (λ (z : ℤ). rise z (c .args .base) (c .args .max)) (toZ-ofZ w32 (c .args .wanted) (c .fits .wanted))
+    (goes-on (s .loop .inv .0) (omega arith) (risen-by _ (s .loop .inv .1) ∙ lt-leb _ _ (c .before .if2 .left)) (omega arith), next-risen c)
 
 returns : tie.Need-returns Inv-loop μ-loop
 unfolding rise
-returns c = stops-at-end (c .before .loop .inv) (omega arith) ∙ back (c .before .before .before)
+returns c = stops-at-end (c .before .loop .inv .0) (omega arith)
 
 returns-2 : tie.Need-returns-2 Inv-loop μ-loop
 unfolding rise
 returns-2 c =
-    let s = c .before .before .before in
-    stops-here (s .loop .inv) (ap (leZ (read (s .before .before .args .wanted))) (sym (difference (c .before) .is)) ∙ c .if2 .taken) ∙ back (s .before .before)
+    let s = c .before .before in
+    stops-here (s .loop .inv .0) (risen-by _ (s .loop .inv .1) ∙ le-leb _ _ (c .if2 .taken))
 
 pub rise-from-spec : {M : Type 1} → statement M
 rise-from-spec =
@@ -72,10 +61,9 @@ rise-from-spec =
     (tie.spec
     Inv-loop
     μ-loop
-    gain-at-requires
     loop-holds
-    gain-at-requires-2
-    sub-if2
+    difference-above-requires
+    add-risen
     add-volume
     loop-less
     loop-again
