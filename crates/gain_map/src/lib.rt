@@ -7,7 +7,7 @@ use numbers::natural::Natural;
 use numbers::refusal::Refusal;
 
 // The gains of neighbouring input volumes differ by 0, 1 or 2 dB, so the table is kept as these differences (WebRTC's gain_map_internal.h has the gains): 32 volumes a word,
-// 2 bits each, the lowest volume in the lowest bits. A `match`, since an element of a constant array is read from a copy of the whole array made for it.
+// 2 bits each, the lowest volume in the lowest bits. A `match`, since an element of a constant array is read from a copy of the whole array made for it; past 7 is no volume's block.
 fn packed_differences(block: u8) -> u64
     ensures { λ r. ⌜ r ≡ wordOf block ⌝ }
 {
