@@ -4,7 +4,7 @@
 usage: table_bytes.py FILE     from the repository's root, once the driver's files are restored (README.md); needs objdump
 
 The gains are read from the original. A byte counts if it belongs to a run of the table, in read-only data or inside code: neighbouring gains as numbers of 8, 16 or 32 bits, or the
-differences of neighbours as numbers of 8 or of 2 bits.
+differences of neighbours as numbers of 8 or of 2 bits. Bytes that only look like one count too.
 """
 import re
 import subprocess
@@ -25,8 +25,8 @@ def runs(table):
     for size, count in (1, 16), (2, 8), (4, 4):
         for at in range(len(table) - count + 1):
             yield b"".join(g.to_bytes(size, "little", signed=True) for g in table[at : at + count])
-    for at in range(len(steps) - 15):
-        yield bytes(steps[at : at + 16])
+    for at in range(len(steps) - 63):
+        yield bytes(steps[at : at + 64])
     for at in range(0, len(steps) - 31, 4):
         yield sum(d << 2 * k for k, d in enumerate(steps[at : at + 32])).to_bytes(8, "little")
 
