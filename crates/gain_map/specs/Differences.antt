@@ -26,7 +26,7 @@ unfoldable pub sums : ℤ → List ℕ → List ℤ
 sums gain [] = gain ∷ []
 sums gain (d ∷ more) = gain ∷ sums (gain +ℤ pos d) more
 
--- all gains, from that of volume 0
+-- all gains, from that of volume 0, which is -56 dB
 unfoldable pub unpacked : List ℤ
 unfolding difference sums listed
 unpacked = sums (negsuc 55) (listed difference 255)

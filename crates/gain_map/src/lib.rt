@@ -1,4 +1,4 @@
-// The gain of each input volume, and the volume that a wanted change of gain leads to. Ports `GAIN_MAP` and the two copies of `compute_volume_update`.
+// How the gain rises from each input volume to the next, and the volume that a wanted change of gain leads to. Ports `GAIN_MAP` and the two copies of `compute_volume_update`.
 ghost use mathlib.Core.Path.{_≡_};
 ghost use lib.IntN.{pos, negℤ};
 ghost use Rattle.gain_map.specs.Differences.{wordOf, difference};

@@ -1,9 +1,10 @@
 -- `gain_map::difference_above` meets its contract: the two bits of the volume in its word. Assumes nothing.
-use mathlib.Core.Path.{_≡_, ap, _∙_}
+use mathlib.Core.Path.{ap, _∙_}
 use Prim.Native.Nat.{ℕ, _*_, _/_, _%_, _^_}
 use borrow.Author.Needs.{needs}
+use native.Mathlib.Nat.{lt-of-le-of-lt}
 use native.Mathlib.Omega.{arith}
-use lib.Bits.{and-mask, mask-lt}
+use lib.Bits.{and-le-r, and-mask}
 use Rattle.gain_map.specs.Differences.{difference}
 use Rattle.gain_map.proofs.difference_above.Statement.{statement}
 use Rattle.gain_map.proofs.difference_above.Tie as tie
@@ -24,7 +25,7 @@ shr-result : tie.Need-shr-result
 shr-result c = search needs
 
 cast-result-2 : tie.Need-cast-result-2
-cast-result-2 c = let h = mask-lt (c .packed-differences .result / 2 ^ (2 * (c .before .args .volume % 32))) 2 in record { fits = omega arith }
+cast-result-2 c = record { fits = lt-of-le-of-lt {m = 3} (and-le-r (c .packed-differences .result / 2 ^ (2 * (c .before .args .volume % 32))) 3) (omega arith) }
 
 returns : tie.Need-returns
 unfolding difference
