@@ -19,6 +19,7 @@ from wrong import copy_tree, dev, in_short, refusal, replaced
 LEVELS = "crates/levels/specs/"
 GAIN = "crates/gain_map/specs/"
 RING = "crates/clipping_predictor_level_buffer/specs/"
+PREDICTOR = "crates/clipping_predictor/specs/"
 IVC = "crates/input_volume_controller/specs/"
 RECOMMENDED = "reply = volume (pos (processChannels probability level (c .control) .volume));"
 
@@ -75,6 +76,23 @@ EDITS = [
         (IVC + "Calls.antt", "use Rattle.clipping_predictor.specs.Predictor.{Predictor}", "use Rattle.clipping_predictor.specs.Predictor.{Predictor, emptied}"),
         (IVC + "Calls.antt", "state = record { control = initialize (c .control); predictor = c .predictor } }",
          "state = record { control = initialize (c .control); predictor = emptied (c .predictor) } }")]),
+    # ---- document 02 (ii)
+    ("15 is tested before 14", "RefusedBelow", [
+        (PREDICTOR + "Settings.antt", "checkedIf true false levels s = Refused PredictorCapacity", "checkedIf true room false s = Refused PredictorLevels"),
+        (PREDICTOR + "Settings.antt", "checkedIf true true false s = Refused PredictorLevels", "checkedIf true false true s = Refused PredictorCapacity")]),
+    ("14 where two faults stand", "RefusedBelow", [
+        (PREDICTOR + "Settings.antt", "checkedIf false room levels s = Refused PredictorWindows", "checkedIf above false levels s = Refused PredictorCapacity"),
+        (PREDICTOR + "Settings.antt", "checkedIf true false levels s = Refused PredictorCapacity", "checkedIf false true levels s = Refused PredictorWindows")]),
+    # a window of 64 and a sum of 65 would be 7
+    ("a sum is held to 64 before it is compared", "RefusedBelow", [
+        (PREDICTOR + "Settings.antt", "use Prim.Native.Nat.{ℕ, _+_, _≤_, _<_}", "use Prim.Native.Nat.{ℕ, _+_, _≤_, _<_, min}"),
+        (PREDICTOR + "Settings.antt", "checkedIf (ltb window (delay + reference))", "checkedIf (ltb window (min (delay + reference) maxCapacity))")]),
+    ("a delay is held to 64 before it is added", "RefusedBelow", [
+        (PREDICTOR + "Settings.antt", "Natural.{atLeastOf}", "Natural.{withinOf, atLeastOf}"),
+        (PREDICTOR + "Settings.antt", "atLeastOf 0 (c .«reference_window_delay»)", "withinOf 0 maxCapacity (c .«reference_window_delay»)")]),
+    ("beside a refusal stands a predictor with the channels asked for", "RefusedBelow", [
+        (PREDICTOR + "Predictor.antt", "(Checked.Refused cause) = record { answer = Refused cause; predictor = emptyPredictor unmadeSettings 1 }",
+         "(Checked.Refused cause) = record { answer = Refused cause; predictor = emptyPredictor unmadeSettings channels }")]),
     # ---- others
     # then the count never leaves the wait, and with the default wait two frames fewer do
     ("the wait is kept when the rings are emptied", "TwoFewerAreTooFew", [

@@ -32,7 +32,7 @@ use Rattle.mono_input_volume_controller.specs.SpeechError.{speechErrorSays, err
 use Rattle.claims.specs.Causes.{Cause, firstOf}
 use Rattle.claims.specs.RefusedBelow.{volumeStepCauses, predictorFrameCauses, levelCauses, ringCauses, metricsCauses, targetCauses, RefusedBelow}
 use Rattle.claims.proofs.Causes.{less-is, above-is, either, or-true, one-outside-is, isOutside, within-is, misfit-is}
-use Rattle.claims.proofs.BelowMaking.{predictor-first}
+use Rattle.claims.proofs.BelowMaking.{predictor-first, predictor-beside}
 use Rattle.claims.proofs.BelowEstimates.{estimate-first}
 
 -- a single cause from its outcome
@@ -138,6 +138,7 @@ pub refused-below : RefusedBelow
 refused-below = record {
   volume-step = step-first;
   predictor-making = predictor-first;
+  predictor-unmade = predictor-beside;
   predictor-frame = frame-first;
   unchanged = λ p channels samples lent number e. outcome-same (frameFits channels samples lent) p samples lent number e;
   estimate = estimate-first;

@@ -4,10 +4,10 @@ use mathlib.Core.List.{List, [], _∷_}
 use native.Mathlib.Omega.{arith}
 use lib.IntN.{ℤ}
 use Rattle.numbers.specs.declared.refusal.Refusal.{Refusal}
-use Rattle.numbers.specs.declared.refusal.Refusal.the-variants.{ChannelCount, MinimumVolume, ClippedLevelStep, WaitFrames, TargetRange, SpeechThreshold, PredictorConfig, InputVolume, FrameSize, EstimateRange, RingRange, FrameLine}
 use Rattle.numbers.specs.declared.refusal.Outcome.{Outcome}
 use Rattle.numbers.specs.declared.refusal.Outcome.the-variants as Outcome
 use Rattle.numbers.specs.Said.{outcomeSays}
+use Rattle.numbers.proofs.Said.{numbered}
 use Rattle.mono_input_volume_controller.specs.declared.config.Config.{Config}
 use Rattle.input_volume_controller.specs.Controller.{viewOf, Good, makingOf}
 use Rattle.input_volume_controller.specs.Reply.{Reply, done}
@@ -59,18 +59,7 @@ runs-as good (next {d = d} one rest) =
 
 -- no refusal has the number 0
 refused-not-zero : (cause : Refusal) → outcomeNumber (outcomeSays (Outcome.Refused cause)) ≡ 0 → ⊥
-refused-not-zero ChannelCount e = omega arith
-refused-not-zero MinimumVolume e = omega arith
-refused-not-zero ClippedLevelStep e = omega arith
-refused-not-zero WaitFrames e = omega arith
-refused-not-zero TargetRange e = omega arith
-refused-not-zero SpeechThreshold e = omega arith
-refused-not-zero PredictorConfig e = omega arith
-refused-not-zero InputVolume e = omega arith
-refused-not-zero FrameSize e = omega arith
-refused-not-zero EstimateRange e = omega arith
-refused-not-zero RingRange e = omega arith
-refused-not-zero FrameLine e = omega arith
+refused-not-zero cause e = omega (arith, numbered cause .least, e)
 
 accepted-at-zero : (answer : Outcome) → outcomeNumber (outcomeSays answer) ≡ 0 → answer ≡ Outcome.Accepted
 accepted-at-zero Outcome.Accepted e = refl

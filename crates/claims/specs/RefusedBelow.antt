@@ -1,5 +1,5 @@
 -- The calls of the crates below the controller say no by the same table: each is refused with the number of the first cause about its inputs that holds. Document 01, "What a call can say no to",
--- with what stands under the table of causes 7, 8 and 10. None of these calls has a state but the predictor's, which a refused frame leaves as before.
+-- with what stands under the table of causes 7, 8 and 10, and document 02 (ii). None of these calls has a state but the predictor's, which a refused frame leaves as before.
 -- It reaches the code by the contracts of `compute_volume_update` (gain_map), `create_clipping_predictor`, `ClippingPredictor::{analyze, estimate_clipped_level_step}` (clipping_predictor),
 -- `level::measure` and `ClippingPredictorLevelBuffer::{new, compute_partial_metrics}` (clipping_predictor_level_buffer) and `get_speech_level_rms_error_db` (mono_input_volume_controller): each
 -- says that the answer's number and values are those of the definition that is named here. Definitions only.
@@ -13,14 +13,14 @@ use lib.IntN.{ℤ, pos, negsuc, _+ℤ_}
 use lib.Signed.{ltZ, leZ}
 use lib.Ieee.{Float}
 use lib.ListN.{length}
-use Rattle.numbers.specs.Said.{refusalIn, outcomeSays}
+use Rattle.numbers.specs.Said.{refused, refusalIn, outcomeSays}
 use Rattle.gain_map.specs.VolumeUpdate.{updateSays, volumeUpdateOf}
 use Rattle.clipping_predictor_level_buffer.specs.declared.level.Level.{Level}
 use Rattle.clipping_predictor_level_buffer.specs.Level.{measuredSays, measureOf}
 use Rattle.clipping_predictor_level_buffer.specs.Making as Ring
 use Rattle.clipping_predictor_level_buffer.specs.Metrics.{metricsSays, computePartialMetrics}
 use Rattle.clipping_predictor.specs.declared.settings.ClippingPredictorConfig.{ClippingPredictorConfig}
-use Rattle.clipping_predictor.specs.Predictor.{Predictor, makingOf, frameFits, outcomeIf, enteredIf}
+use Rattle.clipping_predictor.specs.Predictor.{Predictor, unmadeSettings, emptyPredictor, makingOf, frameFits, outcomeIf, enteredIf}
 use Rattle.clipping_predictor.specs.EstimateCall.{argumentsOf, estimateSays, estimateOf}
 use Rattle.mono_input_volume_controller.specs.declared.speech_level.SpeechLevel.{SpeechLevel}
 use Rattle.mono_input_volume_controller.specs.SpeechError.{speechErrorSays, speechErrorOf}
@@ -34,18 +34,26 @@ volumeStepCauses volume min max =
     ∷ record { number = 10; holds = outside (pos 0) (pos 255) max || ltZ max volume }
     ∷ []
 
--- "window and reference length at least 1, delay at least 0, delay + reference above window and at most 64"
+-- every window fault but that of the sum: "window and reference length at least 1, delay at least 0, delay + reference above window"
 abbrev pub windowsOut : ℤ → ℤ → ℤ → Bool
-windowsOut window reference delay = ltZ window (pos 1) || (ltZ reference (pos 1) || (ltZ delay (pos 0) || (leZ (delay +ℤ reference) window || ltZ (pos 64) (delay +ℤ reference))))
+windowsOut window reference delay = ltZ window (pos 1) || (ltZ reference (pos 1) || (ltZ delay (pos 0) || leZ (delay +ℤ reference) window))
+
+-- "a sum of delay and reference above 64"
+abbrev pub sumOut : ℤ → ℤ → Bool
+sumOut reference delay = ltZ (pos 64) (delay +ℤ reference)
 
 -- "threshold and margin within -200,000 to 200,000 thousandths"; `negsuc 199999` is -200,000
 abbrev pub levelsOut : ℤ → ℤ → Bool
 levelsOut threshold margin = outside (negsuc 199999) (pos 200000) threshold || outside (negsuc 199999) (pos 200000) margin
 
+-- "7 stays for every other window fault, and is tested before 14, which is tested before 15": so 14 is said where the sum is the windows' one fault, and 15 where the windows are in order.
+-- "Causes 1 and 7 are tested also for a predictor that is off", and "what document 01 says of 7 otherwise holds for all three": the switch stands in no cause
 abbrev pub predictorCauses : ℤ → ClippingPredictorConfig → List Cause
 predictorCauses channels c =
     record { number = 1; holds = outside (pos 1) (pos 8) channels }
-    ∷ record { number = 7; holds = windowsOut (c .«window_length») (c .«reference_window_length») (c .«reference_window_delay») || levelsOut (c .«clipping_threshold») (c .«crest_factor_margin») }
+    ∷ record { number = 7; holds = windowsOut (c .«window_length») (c .«reference_window_length») (c .«reference_window_delay») }
+    ∷ record { number = 14; holds = sumOut (c .«reference_window_length») (c .«reference_window_delay») }
+    ∷ record { number = 15; holds = levelsOut (c .«clipping_threshold») (c .«crest_factor_margin») }
     ∷ []
 
 -- "samples per channel not 1 to 480, or lent samples not channels × that"
@@ -79,6 +87,9 @@ targetCauses min max = record { number = 5; holds = outside (negsuc 89) (pos 30)
 pub record RefusedBelow : Type 0 where
   pub volume-step : (wanted volume min max : ℤ) → refusalIn (updateSays (volumeUpdateOf wanted volume min max)) ≡ firstOf (volumeStepCauses volume min max)
   pub predictor-making : (channels : ℤ) (config : ClippingPredictorConfig) → refusalIn (outcomeSays (makingOf channels config .answer)) ≡ firstOf (predictorCauses channels config)
+  -- "On 1 to 7 nothing is made", nor on 14 and 15: beside a refusal there always stands the same predictor, of one channel and off
+  pub predictor-unmade : (channels : ℤ) (config : ClippingPredictorConfig) (number : ℕ) → outcomeSays (makingOf channels config .answer) ≡ refused number
+      → makingOf channels config .predictor ≡ emptyPredictor unmadeSettings 1
   pub predictor-frame : (channels samples : ℕ) (lent : List Float) → refusalIn (outcomeSays (outcomeIf (frameFits channels samples lent))) ≡ firstOf (predictorFrameCauses channels samples lent)
   pub unchanged : (p : Predictor) (channels samples : ℕ) (lent : List Float) (number : ℕ) → refusalIn (outcomeSays (outcomeIf (frameFits channels samples lent))) ≡ some number
       → enteredIf (frameFits channels samples lent) samples lent p ≡ p

@@ -8,8 +8,8 @@ use lib.IntN.{ℤ, pos, natAbs}
 use borrow.Author.Tests.{le-leb, leb-true, ltb-true}
 use Rattle.numbers.specs.declared.natural.Natural.{Natural}
 use Rattle.numbers.specs.declared.natural.Natural.the-variants.{Number, Outside}
-use Rattle.numbers.specs.Natural.{withinOf}
-use Rattle.numbers.proofs.Ranges.{told}
+use Rattle.numbers.specs.Natural.{atLeastOf}
+use Rattle.numbers.proofs.Ranges.{told-least}
 use Rattle.numbers.specs.declared.refusal.Outcome.the-variants.{Accepted}
 use Rattle.clipping_predictor_level_buffer.specs.declared.Made.{Made}
 use Rattle.clipping_predictor_level_buffer.specs.Ring.{maxCapacity, Emptied}
@@ -17,7 +17,7 @@ use Rattle.clipping_predictor_level_buffer.specs.Making.{capacityOf, makingOf, 
 use Rattle.clipping_predictor.specs.declared.settings.ClippingPredictorConfig.{ClippingPredictorConfig}
 use Rattle.clipping_predictor.specs.declared.settings.Settings.{Settings}
 use Rattle.clipping_predictor.specs.declared.settings.Checked.the-variants.{InOrder}
-use Rattle.clipping_predictor.specs.Settings.{maxLevel, levelsInRange, windowsInOrder, inOrderIf, checked, settingsOf, Good}
+use Rattle.clipping_predictor.specs.Settings.{maxLevel, levelsInRange, checkedIf, checked, settingsOf, Good}
 
 pub made-ring : (n : ℕ) (z : ℤ) (m : Made) → z ≡ pos n → 1 ≤ n → n ≤ maxCapacity → MadeOf z m → Emptied n (m .ring)
 unfolding capacityOf makingOf
@@ -35,7 +35,7 @@ record Tests (window reference delay : ℕ) (threshold margin : ℤ) : Type 0 wh
   second : natAbs margin ≤ maxLevel
 
 tests : (window reference delay : ℕ) (threshold margin : ℤ) (a b c d : Bool) → ltb window (delay + reference) ≡ a → leb (delay + reference) maxCapacity ≡ b → leb (natAbs threshold) maxLevel ≡ c → leb (natAbs margin) maxLevel ≡ d
-    → (s t : Settings) → inOrderIf ((a && b) && (c && d)) s ≡ InOrder t → Tests window reference delay threshold margin × (s ≡ t)
+    → (s t : Settings) → checkedIf a b (c && d) s ≡ InOrder t → Tests window reference delay threshold margin × (s ≡ t)
 tests window reference delay threshold margin true true true true p q r u s t e = (
   record { above = ltb-true window (delay + reference) p; room = leb-true (delay + reference) maxCapacity q; first = leb-true (natAbs threshold) maxLevel r; second = leb-true (natAbs margin) maxLevel u },
   cc,
@@ -45,17 +45,16 @@ tests window reference delay threshold margin true true false d p q r u s t e = 
 tests window reference delay threshold margin true false c d p q r u s t e = let z : _≡_ {A = ℕ} 0 1 = cc in absurd (omega arith)
 tests window reference delay threshold margin false b c d p q r u s t e = let z : _≡_ {A = ℕ} 0 1 = cc in absurd (omega arith)
 
-good′ : (c : ClippingPredictorConfig) (w r d : Natural) (t : Settings) → withinOf 1 maxCapacity (c .«window_length») ≡ w → withinOf 1 maxCapacity (c .«reference_window_length») ≡ r → withinOf 0 maxCapacity (c .«reference_window_delay») ≡ d
-    → checked w r d c ≡ InOrder t → Good t
-unfolding checked windowsInOrder levelsInRange
-good′ c Outside r d t p q u e = let z : _≡_ {A = ℕ} 0 1 = cc in absurd (omega arith)
-good′ c (Number w) Outside d t p q u e = let z : _≡_ {A = ℕ} 0 1 = cc in absurd (omega arith)
-good′ c (Number w) (Number r) Outside t p q u e = let z : _≡_ {A = ℕ} 0 1 = cc in absurd (omega arith)
-good′ c (Number w) (Number r) (Number d) t p q u e =
+good′ : (c : ClippingPredictorConfig) (w r d : Natural) (t : Settings) → atLeastOf 1 (c .«window_length») ≡ w → atLeastOf 1 (c .«reference_window_length») ≡ r → checked w r d c ≡ InOrder t → Good t
+unfolding checked levelsInRange
+good′ c Outside r d t p q e = let z : _≡_ {A = ℕ} 0 1 = cc in absurd (omega arith)
+good′ c (Number w) Outside d t p q e = let z : _≡_ {A = ℕ} 0 1 = cc in absurd (omega arith)
+good′ c (Number w) (Number r) Outside t p q e = let z : _≡_ {A = ℕ} 0 1 = cc in absurd (omega arith)
+good′ c (Number w) (Number r) (Number d) t p q e =
     let k = tests w r d (c .«clipping_threshold») (c .«crest_factor_margin») _ _ _ _ refl refl refl refl _ t e in
     subst Good (k .1) (record {
-      window-low = told 1 maxCapacity (c .«window_length») w p .least;
-      reference-low = told 1 maxCapacity (c .«reference_window_length») r q .least;
+      window-low = told-least 1 (c .«window_length») w p .least;
+      reference-low = told-least 1 (c .«reference_window_length») r q .least;
       window-high = k .0 .above;
       room = k .0 .room;
       threshold-bound = k .0 .first;
@@ -64,4 +63,4 @@ good′ c (Number w) (Number r) (Number d) t p q u e =
 
 pub good-settings : (c : ClippingPredictorConfig) (t : Settings) → settingsOf c ≡ InOrder t → Good t
 unfolding settingsOf
-good-settings c t e = good′ c _ _ _ t refl refl refl e
+good-settings c t e = good′ c _ _ _ t refl refl e

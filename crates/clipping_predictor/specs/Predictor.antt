@@ -60,7 +60,7 @@ pub record Good (p : ClippingPredictor) : Type 0 where
   pub places : length (p .rings) ≡ maxChannels
   pub each : (channel : ℕ) → channel < p .channels → GoodFor (p .settings) (ringAt p channel)
 
--- ---- making: causes 1 and 7
+-- ---- making: cause 1, and then 7, 14 and 15
 
 -- what stands beside a refusal: a predictor of one channel that is off
 abbrev pub unmadeSettings : Settings

@@ -1,13 +1,13 @@
--- Document 01, cause 7: "window and reference length at least 1, delay at least 0, delay + reference above window and at most 64, threshold and margin within
--- -200,000 to 200,000 thousandths". Definitions only.
+-- Document 01: "window and reference length at least 1, delay at least 0, delay + reference above window and at most 64, threshold and margin within -200,000 to 200,000 thousandths",
+-- with the numbers of document 02 (ii): 7, 14 and 15. Definitions only.
 use Prim.Native.Nat.{ℕ, _+_, _≤_, _<_}
 use mathlib.Core.Bool.{Bool, true, false, _&&_}
 use lib.Dec.{leb, ltb}
 use lib.IntN.{ℤ, natAbs}
 use Rattle.numbers.specs.declared.natural.Natural.{Natural}
 use Rattle.numbers.specs.declared.natural.Natural.the-variants.{Number, Outside}
-use Rattle.numbers.specs.declared.refusal.Refusal.the-variants.{PredictorConfig}
-use Rattle.numbers.specs.Natural.{withinOf}
+use Rattle.numbers.specs.declared.refusal.Refusal.the-variants.{PredictorWindows, PredictorCapacity, PredictorLevels}
+use Rattle.numbers.specs.Natural.{atLeastOf}
 use Rattle.numbers.specs.Refusal.{numberOf}
 use Rattle.numbers.specs.Said.{Said, accepted, refused}
 use Rattle.clipping_predictor_level_buffer.specs.Ring.{maxCapacity}
@@ -21,28 +21,30 @@ use Rattle.clipping_predictor.specs.declared.settings.Checked.the-varian
 abbrev pub maxLevel : ℕ
 maxLevel = 200000
 
+-- "threshold and margin within -200,000 to 200,000 thousandths"
 unfoldable pub levelsInRange : ℤ → ℤ → Bool
 levelsInRange threshold margin = leb (natAbs threshold) maxLevel && leb (natAbs margin) maxLevel
-
-unfoldable pub windowsInOrder : ℕ → ℕ → ℕ → Bool
-windowsInOrder window reference delay = ltb window (delay + reference) && leb (delay + reference) maxCapacity
 
 -- document 01's number and values for each case of the answer
 abbrev pub checkedSays : Checked → Said Settings
 checkedSays (InOrder s) = accepted s
 checkedSays (Refused cause) = refused (numberOf cause)
 
-abbrev pub inOrderIf : Bool → Settings → Checked
-inOrderIf true s = InOrder s
-inOrderIf false s = Refused PredictorConfig
+-- "It refuses with 14 if the windows' one fault is a sum of delay and reference above 64, and with 15 if the windows are in order but threshold or margin is out of range; 7 stays for every other
+-- window fault, and is tested before 14, which is tested before 15": whether the sum is above the window, whether a ring has room for it, and whether the levels are in range
+abbrev pub checkedIf : Bool → Bool → Bool → Settings → Checked
+checkedIf false room levels s = Refused PredictorWindows
+checkedIf true false levels s = Refused PredictorCapacity
+checkedIf true true false s = Refused PredictorLevels
+checkedIf true true true s = InOrder s
 
--- no window, reference or delay above 64 can be in order, since delay + reference is at most 64
+-- a window, a reference or a delay that is too small by itself is such another fault; the sum is that of whole numbers of any size
 unfoldable pub checked : Natural → Natural → Natural → ClippingPredictorConfig → Checked
-checked Outside reference delay c = Refused PredictorConfig
-checked (Number window) Outside delay c = Refused PredictorConfig
-checked (Number window) (Number reference) Outside c = Refused PredictorConfig
+checked Outside reference delay c = Refused PredictorWindows
+checked (Number window) Outside delay c = Refused PredictorWindows
+checked (Number window) (Number reference) Outside c = Refused PredictorWindows
 checked (Number window) (Number reference) (Number delay) c =
-    inOrderIf (windowsInOrder window reference delay && levelsInRange (c .«clipping_threshold») (c .«crest_factor_margin»))
+    checkedIf (ltb window (delay + reference)) (leb (delay + reference) maxCapacity) (levelsInRange (c .«clipping_threshold») (c .«crest_factor_margin»))
     (record {
       enabled = c .enabled;
       mode = c .mode;
@@ -53,9 +55,9 @@ checked (Number window) (Number reference) (Number delay) c =
       margin = c .«crest_factor_margin»;
     })
 
+-- "window and reference length at least 1, delay at least 0"
 unfoldable pub settingsOf : ClippingPredictorConfig → Checked
-settingsOf c =
-    checked (withinOf 1 maxCapacity (c .«window_length»)) (withinOf 1 maxCapacity (c .«reference_window_length»)) (withinOf 0 maxCapacity (c .«reference_window_delay»)) c
+settingsOf c = checked (atLeastOf 1 (c .«window_length»)) (atLeastOf 1 (c .«reference_window_length»)) (atLeastOf 0 (c .«reference_window_delay»)) c
 
 -- a configuration from its parts
 abbrev pub configOf : Bool → ClippingPredictorMode → ℤ → ℤ → ℤ → ℤ → ℤ → ClippingPredictorConfig

@@ -1,7 +1,6 @@
 // What a predictor is made from, and what of it is kept.
 ghost use mathlib.Core.Path.{_≡_};
-ghost use Prim.Native.Nat.{_≤_};
-ghost use Rattle.clipping_predictor.specs.Settings.{levelsInRange, windowsInOrder, checkedSays, configOf, settingsOf};
+ghost use Rattle.clipping_predictor.specs.Settings.{levelsInRange, checkedSays, checkedIf, configOf, settingsOf};
 use clipping_predictor_level_buffer::MAX_CAPACITY;
 use numbers::natural::Natural;
 use numbers::refusal::Refusal;
@@ -51,16 +50,23 @@ fn levels_in_range(threshold: i32, margin: i32) -> bool
     numbers::sign::size(margin) <= MAX_LEVEL
 }
 
-fn windows_in_order(window: usize, reference: usize, delay: usize) -> bool
-    requires { ⌜ (reference ≤ 64) × (delay ≤ 64) ⌝ }
-    ensures { λ r. ⌜ r ≡ windowsInOrder window reference delay ⌝ }
+// The first test that fails says which number: of the sum above the window 7, of its room in a ring 14, of the levels 15.
+fn checked_if(above: bool, room: bool, levels: bool, settings: Settings) -> Checked
+    ensures { λ r. ⌜ r ≡ checkedIf above room levels settings ⌝ }
 {
-    if delay + reference <= window {
-        return false;
+    if !above {
+        return Checked::Refused(Refusal::PredictorWindows);
     }
-    delay + reference <= MAX_CAPACITY
+    if !room {
+        return Checked::Refused(Refusal::PredictorCapacity);
+    }
+    if !levels {
+        return Checked::Refused(Refusal::PredictorLevels);
+    }
+    Checked::InOrder(settings)
 }
 
+// Delay and reference are at most the largest i32, so their sum fits.
 fn in_order(
     enabled: bool,
     mode: ClippingPredictorMode,
@@ -72,25 +78,21 @@ fn in_order(
 ) -> Checked
     ensures { λ r. ⌜ r ≡ settingsOf (configOf enabled mode «window_length» «reference_window_length» «reference_window_delay» threshold margin) ⌝ }
 {
-    let first = numbers::natural::within(1, MAX_CAPACITY, window_length);
+    let first = numbers::natural::at_least(1, window_length);
     let Natural::Number(window) = first else {
-        return Checked::Refused(Refusal::PredictorConfig);
+        return Checked::Refused(Refusal::PredictorWindows);
     };
-    let second = numbers::natural::within(1, MAX_CAPACITY, reference_window_length);
+    let second = numbers::natural::at_least(1, reference_window_length);
     let Natural::Number(reference) = second else {
-        return Checked::Refused(Refusal::PredictorConfig);
+        return Checked::Refused(Refusal::PredictorWindows);
     };
-    let third = numbers::natural::within(0, MAX_CAPACITY, reference_window_delay);
+    let third = numbers::natural::at_least(0, reference_window_delay);
     let Natural::Number(delay) = third else {
-        return Checked::Refused(Refusal::PredictorConfig);
+        return Checked::Refused(Refusal::PredictorWindows);
     };
-    if !windows_in_order(window, reference, delay) {
-        return Checked::Refused(Refusal::PredictorConfig);
-    }
-    if !levels_in_range(threshold, margin) {
-        return Checked::Refused(Refusal::PredictorConfig);
-    }
-    Checked::InOrder(Settings {
+    let sum = delay + reference;
+    let levels = levels_in_range(threshold, margin);
+    let settings = Settings {
         enabled,
         mode,
         window,
@@ -98,10 +100,11 @@ fn in_order(
         delay,
         threshold,
         margin,
-    })
+    };
+    checked_if(window < sum, sum <= MAX_CAPACITY, levels, settings)
 }
 
-// Cause 7.
+// Causes 7, 14 and 15, in that order.
 pub fn check(config: ClippingPredictorConfig) -> Checked
     ensures { λ r. ⌜ checkedSays r ≡ checkedSays (settingsOf config) ⌝ }
 {

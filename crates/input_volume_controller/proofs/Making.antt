@@ -7,7 +7,7 @@ use lib.ListN.{length, length-replicate}
 use Rattle.numbers.proofs.Listed.{length-listed}
 use borrow.Author.Tests.{le-leb}
 use Rattle.numbers.specs.declared.natural.Natural.the-variants.{Number}
-use Rattle.numbers.specs.Natural.{withinOf}
+use Rattle.numbers.specs.Natural.{withinOf, atLeastOf}
 use Rattle.clipping_predictor.specs.declared.settings.Checked.the-variants as PredictorChecked
 use Rattle.clipping_predictor.specs.declared.Created.{Created}
 use Rattle.clipping_predictor.specs.declared.settings.ClippingPredictorConfig.{ClippingPredictorConfig}
@@ -24,7 +24,7 @@ use Rattle.input_volume_controller.proofs.ChannelLists.{count-is}
 -- ---- the predictor
 
 predictor-checked : (on : Bool) → PredictorSettings.settingsOf (predictorConfig on) ≡ PredictorChecked.InOrder (predictorSettings on)
-unfolding PredictorSettings.settingsOf PredictorSettings.checked PredictorSettings.windowsInOrder PredictorSettings.levelsInRange withinOf
+unfolding PredictorSettings.settingsOf PredictorSettings.checked PredictorSettings.levelsInRange atLeastOf
 predictor-checked on = refl
 
 within-count : (n : ℕ) → 1 ≤ n → n ≤ maxChannels → withinOf 1 maxChannels (pos n) ≡ Number n

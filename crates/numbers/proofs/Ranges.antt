@@ -1,15 +1,15 @@
--- `withinOf` by the tests of its number, and what its answers tell. Assumes nothing.
-use mathlib.Core.Path.{_≡_, refl}
+-- `withinOf` and `atLeastOf` by the tests of their number, and what their answers tell. Assumes nothing.
+use mathlib.Core.Path.{_≡_, refl, _∙_}
 use mathlib.Core.Bool.{Bool, true, false, _&&_}
 use mathlib.Core.Logic.{_⊎_, inl, inr}
 use Prim.Native.Nat.{ℕ, _≤_, _<_}
 use native.Mathlib.Omega.{arith}
 use lib.Dec.{leb}
 use lib.IntN.{ℤ, pos, negsuc, natAbs}
-use lib.Signed.{ltZ}
+use lib.Signed.{mag, ltZ}
 use borrow.Author.Tests.{le-leb, lt-leb, ltb-true, leb-true, leb-false}
 use Rattle.numbers.specs.declared.natural.Natural.the-variants.{Number, Outside}
-use Rattle.numbers.specs.Natural.{numberIf, withinOf}
+use Rattle.numbers.specs.Natural.{numberIf, withinOf, atLeastOf}
 use Rattle.numbers.proofs.Signs.{clash}
 
 module _ (low high : ℕ) where
@@ -62,3 +62,18 @@ left low high m false b p q e = inl (leb-false low m p)
 pub outside : (low high m : ℕ) → withinOf low high (pos m) ≡ Outside → (m < low) ⊎ (high < m)
 unfolding withinOf
 outside low high m e = left low high m (leb low m) (leb m high) refl refl e
+
+-- ---- a number with a low end alone
+
+and-true : (a : Bool) → a && true ≡ a
+and-true true = refl
+and-true false = refl
+
+-- up to any high end that it keeps, it lies in a range
+pub at-least-is : (low high : ℕ) (x : ℤ) → mag x ≤ high → withinOf low high x ≡ atLeastOf low x
+unfolding withinOf atLeastOf
+at-least-is low high (pos n) h = rw (le-leb n high h, and-true (leb low n))
+at-least-is low high (negsuc n) h = refl
+
+pub told-least : (low : ℕ) (x : ℤ) (n : ℕ) → atLeastOf low x ≡ Number n → Inside low (mag x) x n
+told-least low x n e = told low (mag x) x n (at-least-is low (mag x) x (omega arith) ∙ e)

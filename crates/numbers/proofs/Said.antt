@@ -1,10 +1,11 @@
 -- What an answer says fixes the answer: each function that puts an enum into numbers and values has a way back. Assumes nothing.
 use mathlib.Core.Path.{_≡_, refl, sym, ap, _∙_}
 use mathlib.Core.List.{List, [], _∷_}
-use Prim.Native.Nat.{ℕ}
+use Prim.Native.Nat.{ℕ, _≤_, _<_}
+use native.Mathlib.Omega.{arith}
 use lib.ListN.{getD}
 use Rattle.numbers.specs.declared.refusal.Refusal.{Refusal}
-use Rattle.numbers.specs.declared.refusal.Refusal.the-variants.{ChannelCount, MinimumVolume, ClippedLevelStep, WaitFrames, TargetRange, SpeechThreshold, PredictorConfig, InputVolume, FrameSize, EstimateRange, RingRange, FrameLine}
+use Rattle.numbers.specs.declared.refusal.Refusal.the-variants.{ChannelCount, MinimumVolume, ClippedLevelStep, WaitFrames, TargetRange, SpeechThreshold, PredictorWindows, InputVolume, FrameSize, EstimateRange, RingRange, FrameLine, PredictorCapacity, PredictorLevels}
 use Rattle.numbers.specs.declared.refusal.Outcome.{Outcome}
 use Rattle.numbers.specs.declared.refusal.Outcome.the-variants.{Accepted, Refused}
 use Rattle.numbers.specs.Refusal.{numberOf}
@@ -13,11 +14,11 @@ use Rattle.numbers.specs.Said.{Said, accepted, refused, outcomeSays}
 pub fixed : {A B : Type 0} (says : A → B) (back : B → A) → ((a : A) → back (says a) ≡ a) → (a b : A) → says a ≡ says b → a ≡ b
 fixed says back same a b e = sym (same a) ∙ ap back e ∙ same b
 
--- the cause of a number; there is none of 0
+-- the cause of a number; there is none of 0 and of 13
 abbrev pub causeOf : ℕ → Refusal
 causeOf n =
     getD
-    (FrameLine ∷ ChannelCount ∷ MinimumVolume ∷ ClippedLevelStep ∷ WaitFrames ∷ TargetRange ∷ SpeechThreshold ∷ PredictorConfig ∷ InputVolume ∷ FrameSize ∷ EstimateRange ∷ RingRange ∷ [])
+    (FrameLine ∷ ChannelCount ∷ MinimumVolume ∷ ClippedLevelStep ∷ WaitFrames ∷ TargetRange ∷ SpeechThreshold ∷ PredictorWindows ∷ InputVolume ∷ FrameSize ∷ EstimateRange ∷ RingRange ∷ FrameLine ∷ FrameLine ∷ PredictorCapacity ∷ PredictorLevels ∷ [])
     n FrameLine
 
 pub cause-back : (cause : Refusal) → causeOf (numberOf cause) ≡ cause
@@ -27,12 +28,35 @@ cause-back ClippedLevelStep = refl
 cause-back WaitFrames = refl
 cause-back TargetRange = refl
 cause-back SpeechThreshold = refl
-cause-back PredictorConfig = refl
+cause-back PredictorWindows = refl
 cause-back InputVolume = refl
 cause-back FrameSize = refl
 cause-back EstimateRange = refl
 cause-back RingRange = refl
 cause-back FrameLine = refl
+cause-back PredictorCapacity = refl
+cause-back PredictorLevels = refl
+
+-- a number has one digit or two, and is not 0: no refusal is told as an acceptance
+pub record Numbered (cause : Refusal) : Type 0 where
+  pub least : 1 ≤ numberOf cause
+  pub two-digits : numberOf cause < 100
+
+pub numbered : (cause : Refusal) → Numbered cause
+numbered ChannelCount = record { least = omega arith; two-digits = omega arith }
+numbered MinimumVolume = record { least = omega arith; two-digits = omega arith }
+numbered ClippedLevelStep = record { least = omega arith; two-digits = omega arith }
+numbered WaitFrames = record { least = omega arith; two-digits = omega arith }
+numbered TargetRange = record { least = omega arith; two-digits = omega arith }
+numbered SpeechThreshold = record { least = omega arith; two-digits = omega arith }
+numbered PredictorWindows = record { least = omega arith; two-digits = omega arith }
+numbered InputVolume = record { least = omega arith; two-digits = omega arith }
+numbered FrameSize = record { least = omega arith; two-digits = omega arith }
+numbered EstimateRange = record { least = omega arith; two-digits = omega arith }
+numbered RingRange = record { least = omega arith; two-digits = omega arith }
+numbered FrameLine = record { least = omega arith; two-digits = omega arith }
+numbered PredictorCapacity = record { least = omega arith; two-digits = omega arith }
+numbered PredictorLevels = record { least = omega arith; two-digits = omega arith }
 
 -- the way back, for an enum with a case of values and one of refusals
 abbrev pub answerOf : {A E : Type 0} → (A → E) → (Refusal → E) → Said A → E

@@ -1,7 +1,7 @@
--- Document 01, "What a call can say no to": the number of each cause. Definitions only.
+-- Document 01, "What a call can say no to", with what document 02 adds: the number of each cause. Definitions only.
 use Prim.Native.Nat.{ℕ}
 use Rattle.numbers.specs.declared.refusal.Refusal.{Refusal}
-use Rattle.numbers.specs.declared.refusal.Refusal.the-variants.{ChannelCount, MinimumVolume, ClippedLevelStep, WaitFrames, TargetRange, SpeechThreshold, PredictorConfig, InputVolume, FrameSize, EstimateRange, RingRange, FrameLine}
+use Rattle.numbers.specs.declared.refusal.Refusal.the-variants.{ChannelCount, MinimumVolume, ClippedLevelStep, WaitFrames, TargetRange, SpeechThreshold, PredictorWindows, InputVolume, FrameSize, EstimateRange, RingRange, FrameLine, PredictorCapacity, PredictorLevels}
 
 abbrev pub numberOf : Refusal → ℕ
 -- channel count not 1 to 8
@@ -16,8 +16,8 @@ numberOf WaitFrames = 4
 numberOf TargetRange = 5
 -- speech probability or speech ratio threshold not 0 to 1, or not a number
 numberOf SpeechThreshold = 6
--- predictor windows or levels out of range
-numberOf PredictorConfig = 7
+-- predictor windows out of range; document 02 (ii): "7 stays for every other window fault" than 14
+numberOf PredictorWindows = 7
 -- a volume not 0 to 255
 numberOf InputVolume = 8
 -- samples per channel not 1 to 480, or lent samples not channels × that
@@ -28,3 +28,7 @@ numberOf EstimateRange = 10
 numberOf RingRange = 11
 -- malformed frame line
 numberOf FrameLine = 12
+-- document 02 (ii): "the windows' one fault is a sum of delay and reference above 64"
+numberOf PredictorCapacity = 14
+-- document 02 (ii): "the windows are in order but threshold or margin is out of range"
+numberOf PredictorLevels = 15

@@ -1,6 +1,6 @@
 // A public i32 is taken apart here, once: inside, numbers are unsigned.
 ghost use mathlib.Core.Path.{_≡_};
-ghost use Rattle.numbers.specs.Natural.{withinOf};
+ghost use Rattle.numbers.specs.Natural.{withinOf, atLeastOf};
 
 // A number that lies in its range, or none.
 pub enum Natural {
@@ -23,4 +23,14 @@ pub fn within(low: usize, high: usize, x: i32) -> Natural
         return Natural::Outside;
     }
     Natural::Number(n)
+}
+
+// The most that an i32 holds.
+const MAX_I32: usize = 2147483647;
+
+// x as a natural number, where it is at least low. It has no high end but its type's.
+pub fn at_least(low: usize, x: i32) -> Natural
+    ensures { λ r. ⌜ r ≡ atLeastOf low x ⌝ }
+{
+    within(low, MAX_I32, x)
 }

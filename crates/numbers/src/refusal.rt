@@ -9,12 +9,14 @@ pub enum Refusal {
     WaitFrames,
     TargetRange,
     SpeechThreshold,
-    PredictorConfig,
+    PredictorWindows,
     InputVolume,
     FrameSize,
     EstimateRange,
     RingRange,
     FrameLine,
+    PredictorCapacity,
+    PredictorLevels,
 }
 
 // What a call answers that has nothing to say but that.
@@ -33,11 +35,13 @@ pub fn number(cause: Refusal) -> u32
         Refusal::WaitFrames => 4,
         Refusal::TargetRange => 5,
         Refusal::SpeechThreshold => 6,
-        Refusal::PredictorConfig => 7,
+        Refusal::PredictorWindows => 7,
         Refusal::InputVolume => 8,
         Refusal::FrameSize => 9,
         Refusal::EstimateRange => 10,
         Refusal::RingRange => 11,
         Refusal::FrameLine => 12,
+        Refusal::PredictorCapacity => 14,
+        Refusal::PredictorLevels => 15,
     }
 }
