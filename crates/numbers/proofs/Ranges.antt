@@ -69,7 +69,7 @@ and-true : (a : Bool) → a && true ≡ a
 and-true true = refl
 and-true false = refl
 
--- up to any high end that it keeps, it lies in a range
+-- a high end that it does not pass changes nothing
 pub at-least-is : (low high : ℕ) (x : ℤ) → mag x ≤ high → withinOf low high x ≡ atLeastOf low x
 unfolding withinOf atLeastOf
 at-least-is low high (pos n) h = rw (le-leb n high h, and-true (leb low n))
