@@ -40,7 +40,6 @@ pub mod Marked
 pub mod Closing
 pub mod Relaxed
 pub mod EveryMode
-pub mod Loudest
 pub mod QuietSamples
 pub mod TwoPasts
 pub mod Exists

@@ -9,6 +9,7 @@ use lib.Ieee.{Float, le, lt, eq}
 use lib.ListN.{drop}
 use Rattle.numbers.specs.Listed.{listed}
 use Rattle.levels.specs.FloatParts.{magnitudeOf}
+use Rattle.levels.proofs.Quiet.{loudest, low-level}
 use Rattle.clipping_predictor_level_buffer.specs.Statistics.{plusZero, secondIf, larger, largest}
 use Rattle.clipping_predictor_level_buffer.specs.Level.{frameRecord}
 use Rattle.clipping_predictor.specs.declared.settings.Settings as Predictor
@@ -21,7 +22,6 @@ use Rattle.claims.specs.LeadIn.{all, isQuiet, quiet, isSound, isLow, qui
 use Rattle.claims.specs.TwoPasts.{AlikeAfter, enough, enoughFor, RatioFromZero, TwoPasts}
 use Rattle.claims.specs.Sharp.{OneFewerIsEnough}
 use Rattle.claims.proofs.Lists.{and-l, and-r, and-both, all-take, all-drop}
-use Rattle.claims.proofs.Loudest.{loudest, low-level}
 use Rattle.claims.proofs.QuietSamples.{sound, magnitude-low}
 use Rattle.claims.proofs.Relaxed.{all-by, relaxed, fewer-asked}
 use Rattle.claims.proofs.EveryMode.{same-state-in-every-mode, one-fewer-in-every-mode}
@@ -56,7 +56,7 @@ own-good on = record { window-low = lit≤ tt; reference-low = lit≤ tt; window
 module _ (on : Bool) where
   channel-low : (xs : List Float) → T (all isQuiet xs) → T (isLow (predictorSettings on) (frameRecord xs))
   unfolding isLow frameRecord largest
-  channel-low xs t = low-level (largest (map magnitudeOf xs)) (peak-up-to plusZero xs zero-up-to t)
+  channel-low xs t = low-level 999 (lit≤ tt) (largest (map magnitudeOf xs)) (peak-up-to plusZero xs zero-up-to t)
 
   quiet-in-general : (channels samples : ℕ) (lent : List Float) → T (quiet samples lent) → T (quietFor (predictorSettings on) channels samples lent)
   unfolding quiet quietFor

@@ -13,7 +13,7 @@ use lib.Ieee.Digits.{size-lt, size-le}
 use lib.Ieee.Fits.{down-pos}
 use lib.Ieee.Exact.{HasValue}
 use Rattle.levels.specs.declared.decibels.Decibels.the-variants.{Finite, PlusInfinity}
-use Rattle.levels.specs.Level.{digits, logarithm, decimal, aboveOne, thousandths, levelOf}
+use Rattle.levels.specs.Level.{digits, logarithm, toDecimal, decimal, aboveOne, thousandths, levelOf}
 use Rattle.numbers.proofs.Signs.{clash}
 use Rattle.levels.proofs.Fields.{Signed, Small}
 
@@ -60,7 +60,7 @@ unfolding digits
 none = refl
 
 decimal-zero : (p : ℕ) → decimal p 0 ≡ 0
-decimal-zero p = ap (λ (z : ℕ). (z * 643 + 17498111) / 17498112) (mul-zero p)
+decimal-zero p = ap toDecimal (mul-zero p)
 
 at-one : (p n c x w : ℕ) → 0 < c → 2 ^ 31 ≤ x → x < 2 ^ 32 → n * 2 ^ 31 ≡ x * (c * 2 ^ w) → n ≤ c → decimal p (w * 2 ^ 13 + digits 13 x) ≡ 0
 at-one p n c x zero some lo hi value h =

@@ -21,9 +21,13 @@ unfoldable pub logarithm : ℕ → ℕ → ℕ
 unfolding digits size
 logarithm n c = let w = size (n / c) - 1 in w * 2 ^ 13 + digits 13 (n * 2 ^ 31 / (c * 2 ^ w))
 
--- The decimal logarithm of a number to the power p, from its binary logarithm l in 8192ths, rounded up. 643 / 2136 stands for the decimal logarithm of 2.
+-- A decimal logarithm from a binary one in 8192ths, rounded up. 643 / 2136 stands for the decimal logarithm of 2.
+abbrev pub toDecimal : ℕ → ℕ
+toDecimal l = (l * 643 + (8192 * 2136 - 1)) / (8192 * 2136)
+
+-- the decimal logarithm of a number to the power p, from its binary logarithm l
 abbrev pub decimal : ℕ → ℕ → ℕ
-decimal p l = (p * l * 643 + (8192 * 2136 - 1)) / (8192 * 2136)
+decimal p l = toDecimal (p * l)
 
 -- the level of n / c: 0 at 1 or below
 unfoldable pub aboveOne : Bool → ℕ → ℕ → ℕ → ℕ
@@ -58,9 +62,9 @@ unfoldable pub dbfs : Float → Decibels
 unfolding plus
 dbfs v = plus (d v) minLevelDbfs
 
--- no level of an f32 is above this
+-- No level of an f32 is above this, and the largest f32 has it: its exact level is 770,636.79.
 abbrev pub levelLimit : ℕ
-levelLimit = 770638
+levelLimit = 770636
 
 -- r is the level l, and a finite one lies within the limit
 pub record Leveled (l r : Decibels) : Type 0 where

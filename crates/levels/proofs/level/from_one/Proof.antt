@@ -33,7 +33,7 @@ digits-of : (c : tie.After-logarithm) → c .logarithm .result ≡ digits 13 ((c
 digits-of c = c .logarithm .ensures ∙ ap (digits 13) (start-is (c .before .args .fraction) (c .before .pre .3))
 
 fact : (c : tie.After-logarithm) → let r = c .logarithm .result in let a = c .before .args in
-    ((a .exponent - 127) * 8192 + r ≤ 2 ^ 20) × (a .power * ((a .exponent - 127) * 8192 + r) ≤ 20000 * 2 ^ 20)
+    ((a .exponent - 127) * 8192 + r ≤ 2 ^ 20 - 1) × (a .power * ((a .exponent - 127) * 8192 + r) ≤ 20000 * (2 ^ 20 - 1))
 fact c = let a = c .before .args in binary-le (a .power) (a .exponent) (a .fraction) (c .logarithm .result) (c .before .pre .0) (c .before .pre .2) (c .before .pre .3) (digits-of c)
 
 add-binary : tie.Need-add-binary
