@@ -7,7 +7,7 @@ use Rattle.claims.proofs.Refused.{refused-calls}
 use Rattle.claims.proofs.Below.{refused-below}
 use Rattle.claims.proofs.Bounds.{bounds}
 use Rattle.claims.proofs.Broken.{broken-leaves}
-use Rattle.claims.proofs.Levels.{levels-within-two}
+use Rattle.claims.proofs.Levels.{levels-within-one}
 use Rattle.claims.proofs.Marked.{marked-exactly}
 use Rattle.claims.proofs.Unmarked.{unmarked-is-exact}
 use Rattle.claims.proofs.UnmarkedRun.{unmarked-run-is-exact}
@@ -35,7 +35,7 @@ claims = record {
   refused-below = refused-below;
   bounds = bounds;
   broken = broken-leaves;
-  levels = levels-within-two;
+  levels = levels-within-one;
   marked = marked-exactly;
   unmarked = unmarked-is-exact;
   unmarked-run = unmarked-run-is-exact;

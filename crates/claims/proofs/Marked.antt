@@ -239,7 +239,7 @@ never-marked c probability level near e = clash (sym (ap isMark e) ∙ recommend
 
 -- ---- three frames
 
-computed : (replyAfter 9 29208 ≡ mark true) × (replyAfter 9 29300 ≡ mark false) × (replyAfter 8 29208 ≡ mark false)
+computed : (replyAfter 9 29226 ≡ mark true) × (replyAfter 9 29229 ≡ mark false) × (replyAfter 8 29226 ≡ mark false)
 unfolding listed withinOf minus less atMost within magnitudeOf Decibel.levelOf dbfs gain walk frameRecord metricsOver partialMetrics sum mean largest dropBy adaptiveDrop estimateTree pushEach frameFits reached marked after called aggregateOf countOf clippedIn mostClipped clippedRatio defaults settingsFrom withAppliedInputVolume lowerChannels analyzeInputAudio ofInt ofBits add mul div lt le
 computed = (refl, refl, refl)
 

@@ -10,7 +10,7 @@ use Rattle.claims.specs.Refused.{RefusedCalls}
 use Rattle.claims.specs.RefusedBelow.{RefusedBelow}
 use Rattle.claims.specs.Bounds.{Bounds}
 use Rattle.claims.specs.Broken.{BrokenLeaves}
-use Rattle.claims.specs.Levels.{LevelsWithinTwo}
+use Rattle.claims.specs.Levels.{LevelsWithinOne}
 use Rattle.claims.specs.Marked.{MarkedExactly}
 use Rattle.claims.specs.Unmarked.{UnmarkedIsExact}
 use Rattle.claims.specs.ExactRun.{UnmarkedRunIsExact}
@@ -42,8 +42,8 @@ pub record Claims : Type 0 where
   pub bounds : Bounds
   -- a broken sample is gone from every ring once delay + reference frames were accepted with capture on
   pub broken : BrokenLeaves
-  -- the level functions are within two thousandths
-  pub levels : LevelsWithinTwo
+  -- the level functions are within one thousandth
+  pub levels : LevelsWithinOne
   -- an estimate is marked exactly if a comparison that it reached was near, a frame exactly if one of its estimates is, a recommendation never
   pub marked : MarkedExactly
   -- an estimate without a near mark decides as exact logarithms would, and a run without one goes as they would have it go. Exact are the logarithms: means and peaks are the rounded floats that the

@@ -1,6 +1,6 @@
 -- Marks. Document 01: "An estimate is marked near exactly if a comparison of thousandths that it reached had sides 10 apart or less, or an adaptive P whose ceiling was taken lay within 10 of a
--- whole dB from 0 to 14. A frame is marked exactly if one of its channels' estimates is; a recommendation never is .. Infinite, not-a-number or missing sides are never near." Here these words
--- stand by themselves: the list of what an estimate reaches, in order, and no tree.
+-- whole dB from 0 to 14. A frame is marked exactly if one of its channels' estimates is; a recommendation never is .. Infinite, not-a-number or missing sides are never near." Document 02 (x):
+-- "the near distance falls from 10 to 6 everywhere". Here these words stand by themselves: the list of what an estimate reaches, in order, the number 6, and no tree.
 -- It reaches the code by the contracts of `ClippingPredictor::estimate_clipped_level_step`, whose mark is that of `estimateTree`, and of `InputVolumeController::analyze_input_audio`, whose answer is
 -- the reply of `step`. Definitions only.
 use mathlib.Core.Path.{_≡_}
@@ -13,7 +13,7 @@ use lib.Ieee.{Float, binary32, ofInt}
 use lib.ListN.{length, replicate}
 use Rattle.levels.specs.declared.decibels.Decibels.{Decibels}
 use Rattle.levels.specs.declared.decibels.Decibels.the-variants.{Finite}
-use Rattle.levels.specs.Decibels.{minus, less, atMost, near}
+use Rattle.levels.specs.Decibels.{minus, less, atMost, within}
 use Rattle.levels.specs.Level.{dbfs}
 use Rattle.clipping_predictor_level_buffer.specs.declared.level.Level.{Level}
 use Rattle.clipping_predictor_level_buffer.specs.declared.Metrics.{Metrics}
@@ -80,14 +80,14 @@ estimateReaches s records a =
 
 -- ---- the mark
 
--- near to one of the first `count` whole dB, counted from 0
+-- "within" 6 "of a whole dB": of one of the first `count`, counted from 0
 unfoldable pub nearWhole : ℕ → Decibels → Bool
 nearWhole zero p = false
-nearWhole (suc k) p = near p (Finite (pos (k * 1000))) || nearWhole k p
+nearWhole (suc k) p = within 6 p (Finite (pos (k * 1000))) || nearWhole k p
 
--- "sides 10 apart or less"; "within 10 of a whole dB from 0 to 14"
+-- "sides" 6 "apart or less"; "within" 6 "of a whole dB from 0 to 14"
 abbrev pub isNear : Reached → Bool
-isNear (compared x y) = near x y
+isNear (compared x y) = within 6 x y
 isNear (ceilingOf p) = nearWhole 15 p
 
 unfoldable pub any : {A : Type 0} → (A → Bool) → List A → Bool
@@ -123,7 +123,8 @@ pub record MarkedExactly : Type 0 where
   pub frames : (c : Controller) (volume samples : ℕ) (lent : List Float) → T (isAccepted (length (c .control .channels)) (pos volume) samples lent)
       → step c (frame (pos volume) samples lent) .reply ≡ mark (frameMarked volume samples lent c)
   pub recommendations : (c : Controller) (probability : Float) (level : SpeechLevel) (near : Bool) → step c (recommendation probability level) .reply ≡ mark near → ⊥
-  -- a peak at -1.000 dB is near the threshold; one of 29,300 is not, nor is its P, above the threshold, near a whole dB; and with a frame fewer metrics are missing, and nothing is compared
-  pub one-marked : replyAfter 9 29208 ≡ mark true
-  pub one-unmarked : replyAfter 9 29300 ≡ mark false
-  pub one-missing : replyAfter 8 29208 ≡ mark false
+  -- a peak of 29,226 has the level -994, which is 6 above the threshold, and so has its P: near; one of 29,229 has -993, 7 above it, and is not near; and with a frame fewer metrics are missing, and
+  -- nothing is compared
+  pub one-marked : replyAfter 9 29226 ≡ mark true
+  pub one-unmarked : replyAfter 9 29229 ≡ mark false
+  pub one-missing : replyAfter 8 29226 ≡ mark false

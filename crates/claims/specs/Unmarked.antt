@@ -1,5 +1,5 @@
 -- An unmarked estimate decides as exact logarithms would. `estimateTree` of the clipping predictor is what the code does (the contracts of `ClippingPredictor::estimate_clipped_level_step` and
--- `InputVolumeController::analyze_input_audio` rest on it): its tests compare rounded levels, and are near where the sides lie 10 apart or less. `exactDrop` compares exact ones. Definitions only.
+-- `InputVolumeController::analyze_input_audio` rest on it): its tests compare rounded levels, and are near where the sides lie 6 apart or less. `exactDrop` compares exact ones. Definitions only.
 use mathlib.Core.Path.{_≡_}
 use mathlib.Core.Bool.{true, false}
 use mathlib.Core.List.{List}

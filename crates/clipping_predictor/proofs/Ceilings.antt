@@ -1,4 +1,4 @@
--- The test against the nearest whole dB is the ceiling, and it is near exactly where P lies within 10 of a whole dB from 0 to 14. Assumes nothing.
+-- The test against the nearest whole dB is the ceiling, and it is near exactly where P lies within the near distance of a whole dB from 0 to 14. Assumes nothing.
 use mathlib.Core.Path.{_≡_, refl, sym, ap, _∙_}
 use mathlib.Core.Bool.{Bool, true, false, _&&_, cond}
 use Prim.Native.Nat.{ℕ, zero, suc, _+_, _-_, _*_, _/_, _≤_, _<_}
@@ -43,7 +43,7 @@ unfolding marked
 tree-mark a z true n x y = or-false n
 tree-mark a z false n x y = or-false n
 
--- z lies within 10 of k whole dB
+-- z lies within the near distance of k whole dB
 abbrev pub Close : ℤ → ℕ → Type 0
 Close z k = natAbs (z -ℤ pos (k * 1000)) ≤ nearDistance
 
@@ -52,7 +52,7 @@ both true true e = (refl, refl)
 both true false e = clash (sym e)
 both false b e = clash (sym e)
 
--- THE MARK: near means that some whole dB from 0 to 14 is within 10
+-- THE MARK: near means that some whole dB from 0 to 14 is within the near distance
 pub near-means : (a : Asked) (z : ℤ) → marked (ceilingTree a z (nearestWhole z)) ≡ true → (k : ℕ) × (k < maxGainChange) × Close z k
 unfolding within
 near-means a z e =

@@ -69,8 +69,8 @@ abbrev pub nearestWhole : ℤ → ℕ
 nearestWhole (pos n) = (n + 500) / 1000
 nearestWhole (negsuc n) = 0
 
--- The ceiling is the nearest whole dB k where P is at most that, and else the next one. "an adaptive P whose ceiling was taken lay within 10 of a whole dB from 0 to 14":
--- no other whole dB can be so close.
+-- The ceiling is the nearest whole dB k where P is at most that, and else the next one. "an adaptive P whose ceiling was taken lay within" 6 "of a whole dB from 0 to
+-- 14", by document 02 (x): no other whole dB can be so close.
 abbrev pub ceilingTree : Asked → ℤ → ℕ → Tree ℕ
 ceilingTree a z k =
     test (leZ z (pos (k * 1000))) (ltb k maxGainChange && near (Finite z) (Finite (pos (k * 1000)))) (leaf (adaptiveDrop a k)) (leaf (adaptiveDrop a (k + 1)))

@@ -1,5 +1,5 @@
--- A decision as a small tree of tests. Each test has its outcome, and whether it was near (document 01's word: its sides lay 10 apart or less); a leaf is
--- what the outcomes lead to. Definitions only.
+-- A decision as a small tree of tests. Each test has its outcome, and whether it was near (document 01's word: its sides lay 10 apart or less, and
+-- since document 02 (x) 6 or less); a leaf is what the outcomes lead to. Definitions only.
 use mathlib.Core.Bool.{Bool, true, false, _||_}
 use Rattle.levels.specs.declared.decibels.Decibels.{Decibels}
 use Rattle.levels.specs.Decibels.{less, atMost, near}
@@ -15,7 +15,7 @@ reached (leaf a) = a
 reached (test true n held failed) = reached held
 reached (test false n held failed) = reached failed
 
--- "marked near exactly if a comparison .. that it reached had sides 10 apart or less": one of the tests on the way was near
+-- "marked near exactly if a comparison .. that it reached had" near sides: one of the tests on the way was near
 unfoldable pub marked : {A : Type 0} → Tree A → Bool
 marked (leaf a) = false
 marked (test true n held failed) = n || marked held

@@ -64,7 +64,7 @@ fn answer_files(s: &[u8]) {
 }
 
 fn main() {
-    let mut space = [0u8; 450000];
+    let mut space = [0u8; 650000];
     let n = io::read_full(STDIN_FILENO, &mut space);
     answer_files(&space[..n]);
 }

@@ -86,7 +86,7 @@ level-bounds k p m e hk hp held above =
     (sym (above-one p n c above ∙ ap (decimal p) (log-is n c (f .x) (f .w) (down-pos e) (f .least) (f .most) (f .value))))
     (bounds p n c (f .x) (f .w) hp (f .least) (f .most) (f .range) (f .value)))
 
--- THE CLAIM, of every f32
+-- THE CLAIM, of every f32, at each tolerance from 1
 pub level-right : (k p : ℕ) (v : Float) → 1 ≤ k → p ≤ 20000 → T (fits binary32 v) → IsLevel k p v (levelOf p v)
 unfolding levelOf
 level-right k p nan hk hp held = refl
@@ -100,7 +100,7 @@ level-right k p (fin false m e) hk hp held = record {
   high = level-bounds k p m e hk hp held;
 }
 
--- document 01's bounds, two thousandths
+-- THE CLAIM at the tolerance that the documents ask for, of both levels
 pub d-right : (v : Float) → T (fits binary32 v) → IsLevel tolerance 20000 v (d v)
 d-right v held = level-right tolerance 20000 v (lit≤ tt) (lit≤ tt) held
 

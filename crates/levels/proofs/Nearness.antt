@@ -5,7 +5,7 @@ use Prim.Native.Nat.{ℕ, suc, _-_, _^_, _≤_, _<_, min}
 use native.Mathlib.Omega.{arith}
 use native.Mathlib.Decide.{decLe}
 use lib.Dec.{leb}
-use lib.IntN.{ℤ, pos, negsuc, natAbs, _-ℤ_}
+use lib.IntN.{ℤ, pos, negsuc, negℤ, natAbs, _-ℤ_}
 use lib.Signed.{ltZ, leZ}
 use borrow.Author.Tests.{ltb-true, le-leb, lt-leb}
 use Rattle.numbers.proofs.Signs.{clash}
@@ -23,8 +23,8 @@ same-leb a j b k f g =
 -- holding a difference changes no answer: what is held is far from near
 held-near : (z : ℤ) → leb (natAbs (held32 z)) nearDistance ≡ leb (natAbs z) nearDistance
 unfolding held32
-held-near (pos n) = same-leb (min n (2 ^ 31 - 1)) 10 n 10 (λ h. omega arith) (λ h. omega arith)
-held-near (negsuc n) = same-leb (suc (min n (2 ^ 31 - 1))) 10 (suc n) 10 (λ h. omega arith) (λ h. omega arith)
+held-near (pos n) = same-leb (min n (2 ^ 31 - 1)) nearDistance n nearDistance (λ h. omega arith) (λ h. omega arith)
+held-near (negsuc n) = same-leb (suc (min n (2 ^ 31 - 1))) nearDistance (suc n) nearDistance (λ h. omega arith) (λ h. omega arith)
 
 -- whether a difference is a near one
 abbrev pub nearBy : Decibels → Bool
@@ -51,10 +51,10 @@ near-is NotANumber b = refl
 
 -- ---- one signed number
 
-pub small-below : (x : ℤ) → ltZ x (pos 0) ≡ true → leZ (negsuc 9) x ≡ leb (natAbs x) nearDistance
+pub small-below : (x : ℤ) → ltZ x (pos 0) ≡ true → leZ (negℤ (pos nearDistance)) x ≡ leb (natAbs x) nearDistance
 small-below (pos n) t = let h = ltb-true n 0 t in absurd (omega arith)
-small-below (negsuc n) t = same-leb n 9 (suc n) 10 (λ h. omega arith) (λ h. omega arith)
+small-below (negsuc n) t = same-leb n (nearDistance - 1) (suc n) nearDistance (λ h. omega arith) (λ h. omega arith)
 
-pub small-above : (x : ℤ) → ltZ x (pos 0) ≡ false → leZ x (pos 10) ≡ leb (natAbs x) nearDistance
+pub small-above : (x : ℤ) → ltZ x (pos 0) ≡ false → leZ x (pos nearDistance) ≡ leb (natAbs x) nearDistance
 small-above (pos n) t = refl
 small-above (negsuc n) t = clash t

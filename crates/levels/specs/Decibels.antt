@@ -70,10 +70,11 @@ atMost PlusInfinity MinusInfinity = false
 atMost PlusInfinity NotANumber = false
 atMost NotANumber b = false
 
--- ---- near, document 01's word: "sides 10 apart or less"; "infinite, not-a-number or missing sides are never near"
+-- ---- near, document 01's word: "sides 10 apart or less"; "infinite, not-a-number or missing sides are never near". Document 02 (x): "the near distance falls from
+-- 10 to 6 everywhere"
 
 abbrev pub nearDistance : ℕ
-nearDistance = 10
+nearDistance = 6
 
 -- both are finite, and at most k apart
 unfoldable pub within : ℕ → Decibels → Decibels → Bool

@@ -1,5 +1,5 @@
--- Document 01, "Levels": "10^(d-2) ≤ v^20000 ≤ 10^(d+2), with v an exact fraction"; "At 1 or below, d = h = 0." What it is to be a level, over the tolerance k
--- and the power p. Definitions only.
+-- Document 01, "Levels": "10^(d-2) ≤ v^20000 ≤ 10^(d+2), with v an exact fraction"; "At 1 or below, d = h = 0." Document 02 (x): "within one thousandth of the
+-- exact value instead of two". What it is to be a level, over the tolerance k and the power p. Definitions only.
 use Prim.Native.Nat.{ℕ, _+_, _-_, _*_, _^_, _≤_, _<_}
 use mathlib.Core.Path.{_≡_}
 use mathlib.Core.Bool.{true, false}
@@ -28,6 +28,6 @@ IsLevel k p (inf false) r = r ≡ PlusInfinity
 IsLevel k p (fin true m e) r = r ≡ Finite (pos 0)
 IsLevel k p (fin false m e) r = Near k p (m * up e) (down e) r
 
--- document 01's tolerance
+-- document 02 (x): "within one thousandth"
 abbrev pub tolerance : ℕ
-tolerance = 2
+tolerance = 1

@@ -15,7 +15,7 @@ pub enum Decibels {
 }
 
 // How far apart two finite sides may lie and still be near, in thousandths.
-pub const NEAR_DISTANCE: i32 = 10;
+pub const NEAR_DISTANCE: i32 = 6;
 
 // A sum of two i32, held to the range of one.
 fn hold(sum: i64) -> i32
