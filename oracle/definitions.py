@@ -93,6 +93,22 @@ EDITS = [
     ("beside a refusal stands a predictor with the channels asked for", "RefusedBelow", [
         (PREDICTOR + "Predictor.antt", "(Checked.Refused cause) = record { answer = Refused cause; predictor = emptyPredictor unmadeSettings 1 }",
          "(Checked.Refused cause) = record { answer = Refused cause; predictor = emptyPredictor unmadeSettings channels }")]),
+    # ---- document 02 (x)
+    ("sides 10 apart are near", "MarkedExactly", [
+        (LEVELS + "Decibels.antt", "nearDistance = 6", "nearDistance = 10")]),
+    ("sides 6 apart are not near", "MarkedExactly", [
+        (LEVELS + "Decibels.antt", "nearDistance = 6", "nearDistance = 5")]),
+    # a P that is 6 apart from a whole dB is near, and 7 are not
+    ("a ceiling is near within 10", "MarkedExactly", [
+        (PREDICTOR + "Estimate.antt", "Decibels.{plus, minus, near, Bounded}", "Decibels.{plus, minus, within, Bounded}"),
+        (PREDICTOR + "Estimate.antt", "(ltb k maxGainChange && near (Finite z) (Finite (pos (k * 1000))))", "(ltb k maxGainChange && within 10 (Finite z) (Finite (pos (k * 1000))))")]),
+    # with four levels rounded, sides that differ by one may be equal or the other way round
+    ("only equal sides are near", "UnmarkedIsExact", [
+        (LEVELS + "Decibels.antt", "nearDistance = 6", "nearDistance = 0")]),
+    # it lies within two thousandths
+    ("a level one more", "LevelsWithinOne", [
+        (LEVELS + "Level.antt", "toDecimal l = (l * 643 + (8192 * 2136 - 1)) / (8192 * 2136)",
+         "toDecimal l = let d = (l * 643 + (8192 * 2136 - 1)) / (8192 * 2136) in d + (d + (2 ^ 20 - 1)) / 2 ^ 20")]),
     # ---- others
     # then the count never leaves the wait, and with the default wait two frames fewer do
     ("the wait is kept when the rings are emptied", "TwoFewerAreTooFew", [

@@ -1,16 +1,20 @@
 #!/usr/bin/env python3
 """Random estimates of all modes and windows against the original Rust.
 
-usage: estimates.py ORACLE REPLAY [COUNT [SEED]]
+usage: estimates.py ORACLE REPLAY [COUNT [SEED [edges]]]
 
 ORACLE is the driver over the unchanged Rust (`probe` of rust/), REPLAY the program of crates/replay. Both get the same commands: predictors of one to eight
-channels, frames whose peaks lie around the threshold, with infinite and not-a-number samples among them, and estimates, some of them out of range.
-An unmarked answer must be the Rust's; a refusal must be the one of document 01's table. Prints what was compared, and each line that differs.
+channels, frames whose peaks lie around the threshold, with infinite and not-a-number samples among them, and estimates, some of them out of range. With `edges`: predictors of windows 1, 1, 1 and two frames
+that bring the sides of a comparison, or a P and a whole dB, within 15 thousandths of each other.
+An unmarked answer must be the Rust's; a refusal must be the one of document 01's table; drop and mark must be those of the words (marks.py). Prints what was compared, each line that differs, and
+how far from an edge, in thousandths, the sides of the port lay at most where the Rust's answer is on the other side of it.
 """
 import random
 import struct
 import subprocess
 import sys
+
+from marks import EDGES, Predictor, drawn, drop, shown, threshold_for, turned
 
 PIECE = 400_000  # replay reads half a megabyte at a time; each piece starts with a new predictor
 
@@ -91,6 +95,18 @@ def piece(rnd):
     return commands, refused
 
 
+def piece_of_edges(rnd):
+    """The same at the edges: a step of 1, so that each ceiling has a drop of its own."""
+    commands, size = [], 0
+    while size < PIECE:
+        mode, place, whole = rnd.choice(EDGES[:6] * 3 + EDGES[6:])
+        frames = ["F " + "".join(f"{b:08x}" for b in samples) for samples in drawn(rnd, mode, place, whole, 0.015)]
+        block = [f"P 1 1 {mode} 1 1 1 {threshold_for(place)} 0", *frames, "E 0 200 1 70 255"]
+        commands += block
+        size += sum(len(c) + 1 for c in block)
+    return commands, [None] * len(commands)
+
+
 def run(program, commands):
     out = subprocess.run([program], input=("\n".join(commands) + "\n").encode(), stdout=subprocess.PIPE, stderr=subprocess.DEVNULL).stdout
     return out.decode().split("\n")[:-1]
@@ -103,29 +119,54 @@ def same_record(a, b):
     return [one(w) for w in a.split()] == [one(w) for w in b.split()]
 
 
+def followed(predictor, command, answer):
+    """The predictor that a command leaves which is no estimate."""
+    if command[0] == "P":
+        return Predictor(list(map(int, command.split(" ")[1:])))
+    if command[0] == "F":
+        predictor.push(answer.split(" ")[1:])
+    else:
+        predictor.reset()
+    return predictor
+
+
+def compared(counts, predictor, command, cause, rust, port):
+    """Whether an estimate is what it must be; and what it adds to the counts."""
+    near = port.endswith(" n")
+    answer = port[:-2] if near else port
+    counts["estimates"] += 1
+    counts["refused"] += cause is not None
+    counts["marked"] += near
+    counts["drops"] += answer not in ("none", cause)
+    if cause:
+        return port == cause
+    channel, *asked = map(int, command.split(" ")[1:])
+    tests = predictor.tree(channel, asked[0], asked[2])
+    if answer != rust and near:
+        counts["marked_apart"] += 1
+        counts["farthest_apart"] = max(counts["farthest_apart"], turned(tests, lambda leaf: drop(leaf, *asked) == (0 if rust == "none" else int(rust))))
+    return port == shown(tests, *asked) and (answer == rust or near)
+
+
 def main():
     oracle, replay = sys.argv[1:3]
     wanted = int(sys.argv[3]) if len(sys.argv) > 3 else 1_000_000
     rnd = random.Random(int(sys.argv[4]) if len(sys.argv) > 4 else 1)
-    counts = dict(estimates=0, frames=0, refused=0, drops=0, marked=0, marked_apart=0, differ=0)
+    counts = dict(estimates=0, frames=0, refused=0, drops=0, marked=0, marked_apart=0, farthest_apart=0, differ=0)
+    draw = piece_of_edges if sys.argv[5:] == ["edges"] else piece
     while counts["estimates"] < wanted:
-        commands, refused = piece(rnd)
+        commands, refused = draw(rnd)
         theirs, ours = run(oracle, commands), run(replay, commands)
         assert len(theirs) == len(ours) == len(commands)
+        predictor = None
         for command, cause, rust, port in zip(commands, refused, theirs, ours):
             port = port.split(" => ", 1)[1]
-            if command[0] != "E":
+            if command[0] == "E":
+                fine = compared(counts, predictor, command, cause, rust, port)
+            else:
                 counts["frames"] += command[0] == "F"
                 fine = same_record(rust, port)
-            else:
-                counts["estimates"] += 1
-                near = port.endswith(" n")
-                answer = port[:-2] if near else port
-                counts["refused"] += cause is not None
-                counts["marked"] += near
-                counts["drops"] += answer not in ("none", cause)
-                fine = port == cause if cause else answer == rust or near
-                counts["marked_apart"] += near and answer != rust
+                predictor = followed(predictor, command, port)
             if not fine:
                 counts["differ"] += 1
                 print(f"{command}: the Rust {rust}, the port {port}, the table {cause}")
@@ -133,4 +174,5 @@ def main():
     sys.exit(counts["differ"] != 0)
 
 
-main()
+if __name__ == "__main__":
+    main()

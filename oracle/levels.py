@@ -41,20 +41,27 @@ def within_one(v, power, d):
     return ten(max(d - 1, 0)) * bottom <= top <= ten(d + 1) * bottom
 
 
+def level_of(x, power):
+    """d (power 20,000) or h (10,000) of the value of an f32: 0 at 1 or below, and infinity and not-a-number are their own."""
+    if isnan(x) or x == inf:
+        return x
+    return level(Fraction(x), power) if x > 1 else 0
+
+
 def answer(command, bits):
-    x = value(bits)
-    if isnan(x):
-        return "nan"
-    if x == inf:
-        return "inf"
-    d = 0
-    if x > 1:
-        v = Fraction(x)
-        d = level(v, POWER[command])
-        assert within_one(v, POWER[command], d), f"{command} {bits:08x}: {d} is not within one thousandth"
+    x, power = value(bits), POWER[command]
+    d = level_of(x, power)
+    if isnan(x) or x == inf:
+        return str(d)
+    assert x <= 1 or within_one(Fraction(x), power, d), f"{command} {bits:08x}: {d} is not within one thousandth"
     return str(d - OFFSET if command == "L" else d)
 
 
-for line in sys.stdin:
-    command, bits = line.split()
-    print(f"{command} {bits} => {answer(command, int(bits, 16))}")
+def main():
+    for line in sys.stdin:
+        command, bits = line.split()
+        print(f"{command} {bits} => {answer(command, int(bits, 16))}")
+
+
+if __name__ == "__main__":
+    main()

@@ -1,11 +1,12 @@
 #!/usr/bin/env python3
 """Frame lines: those that the gate runs beside document 01's example, and many for a measurement.
 
-    lines.py gather DIR CRATE    writes CRATE/stdin and CRATE/stdout from the files t_*.in and t_*.exp of DIR, the supplied vectors
+    lines.py gather CRATE DIR ..    writes CRATE/stdin and CRATE/stdout from the supplied frame-line files of the folders, the answers of a later one in place of those of an earlier one
     lines.py many LINES SEED     writes LINES lines of 480 samples to standard output
     lines.py measure TEXT PROGRAM ..   runs each PROGRAM on TEXT, in turns, 15 times: the least and the most seconds
 
 What `gather` writes: the bytes of each file and behind them a byte 28, which no file has (it is ASCII's separator of files); and the expected answers of all files one after another, as they were supplied.
+A file with a line for which several answers are supplied, one for each choice of levels that is allowed, is left out. Answers NAME.old.exp are those before request (iii), and are taken where they are.
 """
 import os
 import random
@@ -17,20 +18,32 @@ import time
 SEPARATOR = bytes([28])
 
 
-def gather(folder, crate):
-    names = sorted(n[:-3] for n in os.listdir(folder) if n.startswith("t_") and n.endswith(".in"))
-    lines = 0
+def supplied(folders):
+    """The paths of each file of frame lines and of its answers, in order of their names."""
+    texts, answers = {}, {}
+    for folder in folders:
+        for name in sorted(os.listdir(folder)):
+            if name.endswith((".exp", ".old.exp")):
+                answers[name.removesuffix(".exp")] = f"{folder}/{name}"
+            elif name.endswith(".in") and not name.endswith(".replay.in"):
+                texts[name.removesuffix(".in")] = f"{folder}/{name}"
+    return [(texts[name], answers.get(name + ".old", answers[name])) for name in sorted(texts)]
+
+
+def gather(crate, folders):
+    files = lines = marks = 0
     with open(crate + "/stdin", "wb") as texts, open(crate + "/stdout", "wb") as answers:
-        for name in names:
-            with open(f"{folder}/{name}.in", "rb") as f:
+        for name, answers_name in supplied(folders):
+            with open(name, "rb") as f:
                 text = f.read()
-            with open(f"{folder}/{name}.exp", "rb") as f:
+            with open(answers_name, "rb") as f:
                 expected = f.read()
-            assert b"/" not in expected and SEPARATOR not in text, name
-            texts.write(text + SEPARATOR)
-            answers.write(expected)
-            lines += expected.count(b"\n")
-    print(len(names), "files,", lines, "lines")
+            if b"/" not in expected:
+                assert SEPARATOR not in text, name
+                texts.write(text + SEPARATOR)
+                answers.write(expected)
+                files, lines, marks = files + 1, lines + expected.count(b"\n"), marks + expected.count(b" n\n")
+    print(files, "files,", lines, "lines,", marks, "marked")
 
 
 def many(count, seed):
@@ -60,8 +73,8 @@ def measure(text, programs):
 
 
 def main():
-    if len(sys.argv) == 4 and sys.argv[1] == "gather":
-        gather(sys.argv[2], sys.argv[3])
+    if len(sys.argv) > 3 and sys.argv[1] == "gather":
+        gather(sys.argv[2], sys.argv[3:])
     elif len(sys.argv) == 4 and sys.argv[1] == "many":
         many(int(sys.argv[2]), int(sys.argv[3]))
     elif len(sys.argv) > 3 and sys.argv[1] == "measure":

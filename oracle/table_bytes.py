@@ -60,4 +60,5 @@ def main():
     sys.exit(total > MOST)
 
 
-main()
+if __name__ == "__main__":
+    main()
