@@ -211,6 +211,17 @@ static void the_example(void) {
     CHECK(agc2_recommended_input_volume(&c) == 0xb9);
 }
 
+/* With the tenth frame the windows are full, and its peak is compared with the threshold of -1 dB: 29,226 lies six thousandths of a dB above it, 29,229 seven. */
+static void marks(void) {
+    static const float samples[2] = {29226, 29229};
+    for (int k = 0; k < 2; k++) {
+        agc2_controller c;
+        CHECK(agc2_new(&c, 1, agc2_default_config()) == 0);
+        for (int frame = 0; frame < 10; frame++)
+            CHECK(agc2_analyze_input_audio(&c, 100, 1, &samples[k], 1) == 0 && agc2_near(&c) == (k == 0 && frame == 9));
+    }
+}
+
 static void refusals(void) {
     static const float frame[961] = {0};
     agc2_config d = agc2_default_config();
@@ -310,6 +321,7 @@ int main(void) {
     equal_histories_have_equal_bytes();
     default_settings();
     the_example();
+    marks();
     refusals();
     flags();
     records();
