@@ -64,9 +64,9 @@ def test(outcome, left, right, held, failed):
 
 
 def ceiling(p):
-    """A test of P against the nearest whole dB, which is never near above 14."""
-    if p == math.inf:
-        return ("ceiling", 15)
+    """A test of P against the nearest whole dB, which is never near above 14; an infinite P is held to 15, and one that is no number is above no threshold."""
+    if not math.isfinite(p):
+        return ("ceiling", 15) if p == math.inf else ("none",)
     k = max(0, (p + 500) // 1000)
     apart = abs(p - 1000 * k) if k <= 14 else NEVER
     return p <= 1000 * k, apart, ("ceiling", k), ("ceiling", k + 1)
@@ -90,7 +90,7 @@ def tree(mode, threshold, margin, window, reference):
     else:
         threshold = math.trunc(threshold / 1000) * 1000
         p = projected(window, reference)
-        second = test(threshold < p, threshold, p, ceiling(p) if mode == ADAPTIVE and threshold < p else ("step",), ("none",))
+        second = test(threshold < p, threshold, p, ceiling(p) if mode == ADAPTIVE else ("step",), ("none",))
     return test(peak <= threshold, peak, threshold, ("none",), second)
 
 
@@ -104,12 +104,17 @@ def reached(t):
     return t
 
 
-def nearest(t):
-    """The least distance of the sides of a test that was reached."""
-    least = NEVER
+def path(t):
+    """The outcome and the distance of each test that is reached."""
+    found = []
     while not is_leaf(t):
-        least, t = min(least, t[1]), t[2] if t[0] else t[3]
-    return least
+        found, t = found + [t[:2]], t[2] if t[0] else t[3]
+    return found
+
+
+def is_near(t):
+    """Whether a test that is reached has sides that are near."""
+    return any(apart <= NEAR for _, apart in path(t))
 
 
 def turned(t, dropped):
@@ -175,7 +180,7 @@ class Predictor:
 def shown(t, level, step, least, most):
     """The answer in words."""
     to = drop(reached(t), level, step, least, most)
-    return (str(to) if to else "none") + (" n" if nearest(t) <= NEAR else "")
+    return (str(to) if to else "none") + (" n" if is_near(t) else "")
 
 
 # ---- lines at the edges
@@ -214,14 +219,6 @@ def drawn(rnd, mode, place, whole, most):
     return frame(rnd.uniform(20, 90), reference), frame(mean, window)
 
 
-def path(t):
-    """The outcome and the distance of each test that is reached."""
-    found = []
-    while not is_leaf(t):
-        found, t = found + [t[:2]], t[2] if t[0] else t[3]
-    return found
-
-
 def at_edge(rnd, mode, place, whole, side, apart):
     """Commands that lead to a test with that outcome and distance, where no other that is reached is near."""
     threshold = threshold_for(place)
@@ -229,11 +226,8 @@ def at_edge(rnd, mode, place, whole, side, apart):
         frames = drawn(rnd, mode, place, whole, 0.02)
         reference, window = map(record, frames)
         tests = path(tree(mode, threshold, 0, window, reference))
-        if place == 2:
-            p = projected(window, reference)
-            there = p == 1000 * whole + (-apart if side else apart)
-        else:
-            there = tests[place : place + 1] == [(side, apart)]
+        # a ceiling of 15 is at its distance and yet never near
+        there = projected(window, reference) == 1000 * whole + (-apart if side else apart) if place == 2 else tests[place : place + 1] == [(side, apart)]
         if there and all(other > 100 for k, (_, other) in enumerate(tests) if k != place):
             return block(mode, threshold, 0, frames, (200, 1 if place == 2 else 15, 70, 255))
 

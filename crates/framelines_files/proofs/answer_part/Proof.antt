@@ -1,15 +1,14 @@
--- `framelines_files::answer_file` goes on by what was used of each piece, and keeps the stream in good order. Assumes nothing.
+-- `framelines_files::answer_part` goes on by what was used of each piece, and keeps the stream in good order. Assumes nothing.
 use mathlib.Core.Path.{_≡_, sym}
 use Prim.Native.Nat.{ℕ, _+_, _-_, _≤_, _<_, _^_}
 use native.Mathlib.Omega.{arith}
 use lib.ListN.{length, take, drop, length-drop, length-replicate}
 use lib.Seq.{length-take-le}
 use Rattle.frame_answers.specs.Stream.{Good}
-use Rattle.frame_answers.proofs.Streams.{finished-within}
 use Rattle.frame_answers.proofs.Whole.{written-within, used-within, some-used}
 use borrow.Author.Needs.{needs}
-use Rattle.framelines_files.proofs.answer_file.Statement.{statement}
-use Rattle.framelines_files.proofs.answer_file.Tie as tie
+use Rattle.framelines_files.proofs.answer_part.Statement.{statement}
+use Rattle.framelines_files.proofs.answer_part.Tie as tie
 
 abbrev Inv-loop : tie.InvT-loop
 Inv-loop text out₀ stream₀ at₀ out stream at = (at ≤ length text) × (length out ≡ 12) × Good stream
@@ -22,21 +21,18 @@ fit c = omega arith
 
 -- what was used lies within the piece, and is not nothing
 moves : (c : tie.After-feed Inv-loop μ-loop) → let l = c .before .before .before .before .before in
-    (l .loop .at < l .loop .at + c .feed .result .used) × (l .loop .at + c .feed .result .used ≤ length (l .before .before .before .args .text .now))
+    (l .loop .at < l .loop .at + c .feed .result .used) × (l .loop .at + c .feed .result .used ≤ length (l .before .before .args .text .now))
 moves c =
     let e = c .before .before .before in
     let l = e .before .before in
-    let t = l .before .before .before .args .text .now in
+    let t = l .before .before .args .text .now in
     let piece : length (take (e .piece-end .result - l .loop .at) (drop (l .loop .at) t)) ≡ e .piece-end .result - l .loop .at =
     length-take-le (e .piece-end .result - l .loop .at) (drop (l .loop .at) t) (omega (arith, length-drop (l .loop .at) t, e .piece-end .ensures)) in
     let some = some-used _ _ _ _ _ (c .feed .ensures) (omega (arith, piece, e .piece-end .ensures)) (omega (arith, l .loop .inv .1)) in
     (omega arith, omega (arith, piece, used-within _ _ _ _ _ (c .feed .ensures), e .piece-end .ensures))
 
-new-requires : tie.Need-new-requires Inv-loop μ-loop
-new-requires c κs = search needs
-
 loop-holds : tie.Need-loop-holds Inv-loop μ-loop
-loop-holds c = (omega arith, length-replicate {A = ℕ} 12 0, c .new .ensures .good)
+loop-holds c = (omega arith, length-replicate {A = ℕ} 12 0, c .before .pre)
 
 piece-end-requires : tie.Need-piece-end-requires Inv-loop μ-loop
 piece-end-requires c κs = search needs
@@ -68,7 +64,7 @@ write-all-requires c κs = search needs
 add-at : tie.Need-add-at Inv-loop μ-loop
 add-at c =
     let f = c .before .before .before .before .before in
-    omega (arith, moves f .1, fit (f .before .before .before .before .before .before .before .before))
+    omega (arith, moves f .1, fit (f .before .before .before .before .before .before .before))
 
 loop-less : tie.Need-loop-less Inv-loop μ-loop
 loop-less c = omega (arith, moves (c .before .before .before .before .before))
@@ -76,28 +72,15 @@ loop-less c = omega (arith, moves (c .before .before .before .before .before))
 loop-again : tie.Need-loop-again Inv-loop μ-loop
 loop-again c = let f = c .before .before .before .before .before in (moves f .1, c .before .before .before .before .out2 .given, f .feed .ensures .stream .good)
 
-finish-requires : tie.Need-finish-requires Inv-loop μ-loop
-finish-requires c κs = search needs
-
-array-share-prefix-bytes : tie.Need-array-share-prefix-bytes Inv-loop μ-loop
-array-share-prefix-bytes c = finished-within _ _ (c .before .finish .ensures)
-
-slice-aggregate-write-all-2 : tie.Need-slice-aggregate-write-all-2 Inv-loop μ-loop
-slice-aggregate-write-all-2 c = sym (length-take-le _ _ (finished-within _ _ (c .before .before .finish .ensures)))
-
-write-all-requires-2 : tie.Need-write-all-requires-2 Inv-loop μ-loop
-write-all-requires-2 c κs = search needs
-
 returns : tie.Need-returns Inv-loop μ-loop
 returns c = search needs
 
-pub answer-file-spec : {M : Type 1} → statement M
-answer-file-spec =
+pub answer-part-spec : {M : Type 1} → statement M
+answer-part-spec =
     tie.close
     (tie.spec
     Inv-loop
     μ-loop
-    new-requires
     loop-holds
     piece-end-requires
     sub-feed
@@ -111,8 +94,4 @@ answer-file-spec =
     add-at
     loop-less
     loop-again
-    finish-requires
-    array-share-prefix-bytes
-    slice-aggregate-write-all-2
-    write-all-requires-2
     returns)
