@@ -7,8 +7,9 @@ ORACLE is the driver over the unchanged Rust (`probe` of rust/), REPLAY the prog
 channels, frames whose peaks lie around the threshold, with infinite and not-a-number samples among them, and estimates, some of them out of range. With `edges`: predictors of windows 1, 1, 1 and two frames
 that bring the sides of a comparison, or a P and a whole dB, within 15 thousandths of each other.
 An unmarked answer must be the Rust's; a refusal must be the one of document 01's table; drop and mark must be those of the words (marks.py). Prints what was compared, each line that differs, and
-how far from an edge, in thousandths, the sides of the port lay at most where the Rust's answer is on the other side of it.
+how far from an edge, in thousandths, the sides of the port lay where the Rust's answer is on the other side of it.
 """
+import collections
 import random
 import struct
 import subprocess
@@ -130,8 +131,8 @@ def followed(predictor, command, answer):
     return predictor
 
 
-def compared(counts, predictor, command, cause, rust, port):
-    """Whether an estimate is what it must be; and what it adds to the counts."""
+def compared(counts, turns, predictor, command, cause, rust, port):
+    """Whether an estimate is what it must be; and what it adds to the counts, and to those of the turns by their distance."""
     near = port.endswith(" n")
     answer = port[:-2] if near else port
     counts["estimates"] += 1
@@ -144,7 +145,7 @@ def compared(counts, predictor, command, cause, rust, port):
     tests = predictor.tree(channel, asked[0], asked[2])
     if answer != rust and near:
         counts["marked_apart"] += 1
-        counts["farthest_apart"] = max(counts["farthest_apart"], turned(tests, lambda leaf: drop(leaf, *asked) == (0 if rust == "none" else int(rust))))
+        turns[turned(tests, lambda leaf: drop(leaf, *asked) == (0 if rust == "none" else int(rust)))] += 1
     return port == shown(tests, *asked) and (answer == rust or near)
 
 
@@ -152,7 +153,8 @@ def main():
     oracle, replay = sys.argv[1:3]
     wanted = int(sys.argv[3]) if len(sys.argv) > 3 else 1_000_000
     rnd = random.Random(int(sys.argv[4]) if len(sys.argv) > 4 else 1)
-    counts = dict(estimates=0, frames=0, refused=0, drops=0, marked=0, marked_apart=0, farthest_apart=0, differ=0)
+    counts = dict(estimates=0, frames=0, refused=0, drops=0, marked=0, marked_apart=0, differ=0)
+    turns = collections.Counter()
     draw = piece_of_edges if sys.argv[5:] == ["edges"] else piece
     while counts["estimates"] < wanted:
         commands, refused = draw(rnd)
@@ -162,7 +164,7 @@ def main():
         for command, cause, rust, port in zip(commands, refused, theirs, ours):
             port = port.split(" => ", 1)[1]
             if command[0] == "E":
-                fine = compared(counts, predictor, command, cause, rust, port)
+                fine = compared(counts, turns, predictor, command, cause, rust, port)
             else:
                 counts["frames"] += command[0] == "F"
                 fine = same_record(rust, port)
@@ -171,6 +173,7 @@ def main():
                 counts["differ"] += 1
                 print(f"{command}: the Rust {rust}, the port {port}, the table {cause}")
     print(", ".join(f"{k} {v}" for k, v in counts.items()))
+    print("turned " + ", ".join(f"{n} at {distance}" for distance, n in sorted(turns.items())))
     sys.exit(counts["differ"] != 0)
 
 
