@@ -11,17 +11,12 @@ how far from an edge, in thousandths, the sides of the port lay where the Rust's
 """
 import collections
 import random
-import struct
 import subprocess
 import sys
 
-from marks import EDGES, Predictor, drawn, drop, shown, threshold_for, turned
+from marks import EDGES, Predictor, bits, drawn, drop, shown, threshold_for, turned
 
-PIECE = 400_000  # replay reads half a megabyte at a time; each piece starts with a new predictor
-
-
-def bits(x):
-    return struct.unpack(">I", struct.pack(">f", x))[0]
+PIECE = 400_000  # bytes of commands for one run of the two programs; each piece starts with a new predictor
 
 
 def predictor(rnd):

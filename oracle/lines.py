@@ -23,7 +23,7 @@ def supplied(folders):
     texts, answers = {}, {}
     for folder in folders:
         for name in sorted(os.listdir(folder)):
-            if name.endswith((".exp", ".old.exp")):
+            if name.endswith(".exp"):
                 answers[name.removesuffix(".exp")] = f"{folder}/{name}"
             elif name.endswith(".in") and not name.endswith(".replay.in"):
                 texts[name.removesuffix(".in")] = f"{folder}/{name}"

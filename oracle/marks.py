@@ -12,7 +12,7 @@ import random
 import struct
 import sys
 
-from levels import OFFSET, level_of
+from levels import OFFSET, level_of, value
 from table_bytes import gains
 
 NEAR = 6
@@ -23,10 +23,6 @@ NEVER = math.inf  # how far apart sides are that are never near
 def rounded(x):
     """A double that is a sum or a quotient of two f32, rounded to one: as if it had been worked out in f32."""
     return ctypes.c_float(x).value
-
-
-def value(bits):
-    return struct.unpack(">f", bits.to_bytes(4, "big"))[0]
 
 
 def bits(x):

@@ -80,14 +80,18 @@ estimateReaches s records a =
 
 -- ---- the mark
 
--- "within" 6 "of a whole dB": of one of the first `count`, counted from 0
+-- "the near distance falls from 10 to 6 everywhere"
+abbrev pub areNear : Decibels → Decibels → Bool
+areNear x y = within 6 x y
+
+-- near to one of the first `count` whole dB, counted from 0
 unfoldable pub nearWhole : ℕ → Decibels → Bool
 nearWhole zero p = false
-nearWhole (suc k) p = within 6 p (Finite (pos (k * 1000))) || nearWhole k p
+nearWhole (suc k) p = areNear p (Finite (pos (k * 1000))) || nearWhole k p
 
--- "sides" 6 "apart or less"; "within" 6 "of a whole dB from 0 to 14"
+-- a comparison that "had" near "sides"; a P that "lay" near "a whole dB from 0 to 14"
 abbrev pub isNear : Reached → Bool
-isNear (compared x y) = within 6 x y
+isNear (compared x y) = areNear x y
 isNear (ceilingOf p) = nearWhole 15 p
 
 unfoldable pub any : {A : Type 0} → (A → Bool) → List A → Bool

@@ -18,6 +18,7 @@ module _ (k n c x w : ℕ) (lo : 2 ^ 31 ≤ x) (hi : x < 2 ^ 32) where
   split : 2 ^ (w * 2 ^ k + digits k x) ≡ 2 ^ (w * 2 ^ k) * 2 ^ digits k x
   split = pow-add 2 (w * 2 ^ k) (digits k x)
 
+  -- n / c is at least that, and at most that; an f32 is both
   pub log-below : x * (c * 2 ^ w) ≤ n * 2 ^ 31 → 2 ^ (w * 2 ^ k + digits k x) * c ^ (2 ^ k) ≤ n ^ (2 ^ k)
   log-below value =
       let m = 2 ^ k in
