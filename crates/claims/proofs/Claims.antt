@@ -23,6 +23,9 @@ use Rattle.claims.proofs.Starred.{starred-cases}
 use Rattle.claims.proofs.ExampleLines.{example-lines}
 use Rattle.claims.proofs.GainTable.{never-falls-holds}
 use Rattle.claims.proofs.Equal.{equal-channels}
+use Rattle.claims.proofs.Depends.{depends-on-one, said-by-others}
+use Rattle.claims.proofs.DependsEach.{depends-on-each}
+use Rattle.claims.proofs.AsOneInCode.{as-one-in-code, as-one-in-library}
 use Rattle.claims.proofs.None.{none-exactly}
 
 pub claims : Claims
@@ -52,5 +55,10 @@ claims = record {
   example-lines = example-lines;
   gains = never-falls-holds;
   equal = equal-channels;
+  depends-on-one = depends-on-one;
+  said-by-others = said-by-others;
+  depends-on-each = depends-on-each;
+  as-one-in-code = as-one-in-code;
+  as-one-in-library = as-one-in-library;
   none = none-exactly;
 }

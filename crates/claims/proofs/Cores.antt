@@ -1,5 +1,5 @@
--- Every call of a channel keeps the settings that the channel carries. Assumes nothing.
-use mathlib.Core.Path.{_≡_, refl, _∙_}
+-- Every call of a channel keeps the settings that the channel carries, and, but for initialise and the capture switch, whether its output is used. Assumes nothing.
+use mathlib.Core.Path.{_≡_, refl, ap, _∙_}
 use mathlib.Core.Bool.{Bool, true, false}
 use mathlib.Core.List.{List, map, map-map}
 use Prim.Native.Nat.{ℕ, _+_, min, max}
@@ -18,76 +18,80 @@ use Rattle.mono_input_volume_controller.specs.MonoProcess.{staysMuted, unlessSt
 use Rattle.input_volume_controller.specs.Channels.{called, eachCalled}
 use Rattle.claims.proofs.Lists.{map-same}
 
--- a channel with all but its settings wiped out
+-- a channel with all wiped out but its settings and whether its output is used
+abbrev lasting : MonoInputVolumeController → MonoInputVolumeController
+lasting m = counts 0 0 true (flags (m .used) true true (volumes 0 0 0 m))
+
+-- and with that wiped out too
 abbrev pub core : MonoInputVolumeController → MonoInputVolumeController
-core m = counts 0 0 true (flags true true true (volumes 0 0 0 m))
+core m = flags true true true (lasting m)
 
 module _ (m : MonoInputVolumeController) where
-  unless-same : (t : Bool) (new : ℕ) → core (unlessSame t new m) ≡ core m
+  unless-same : (t : Bool) (new : ℕ) → lasting (unlessSame t new m) ≡ lasting m
   unless-same true new = refl
   unless-same false new = refl
 
-  unless-users : (t : Bool) (new : ℕ) → core (unlessUsers t new m) ≡ core m
+  unless-users : (t : Bool) (new : ℕ) → lasting (unlessUsers t new m) ≡ lasting m
   unless-users true new = refl
   unless-users false new = unless-same (eqb new (m .last)) new
 
-  unless-muted : (t : Bool) (new : ℕ) → core (unlessMuted t new m) ≡ core m
+  unless-muted : (t : Bool) (new : ℕ) → lasting (unlessMuted t new m) ≡ lasting m
   unless-muted true new = refl
   unless-muted false new = unless-users (isUsers (m .last) (m .volume)) new
 
-  core-set : (new : ℕ) → core (withInputVolume new m) ≡ core m
+  lasting-set : (new : ℕ) → lasting (withInputVolume new m) ≡ lasting m
   unfolding withInputVolume
-  core-set new = unless-muted (eqb (m .volume) 0) (min new (m .ceiling))
+  lasting-set new = unless-muted (eqb (m .volume) 0) (min new (m .ceiling))
 
-  unless-at-floor : (t : Bool) (new : ℕ) → core (unlessAtFloor t new m) ≡ core m
+  unless-at-floor : (t : Bool) (new : ℕ) → lasting (unlessAtFloor t new m) ≡ lasting m
   unless-at-floor true new = refl
-  unless-at-floor false new = core-set new
+  unless-at-floor false new = lasting-set new
 
-  unless-stays-muted : (t : Bool) (volume : ℕ) → core (unlessStaysMuted t volume m) ≡ core m
+  unless-stays-muted : (t : Bool) (volume : ℕ) → lasting (unlessStaysMuted t volume m) ≡ lasting m
   unless-stays-muted true volume = refl
   unless-stays-muted false volume = refl
 
-  core-checked : core (checkedVolumeAndReset m) ≡ core m
+  lasting-checked : lasting (checkedVolumeAndReset m) ≡ lasting m
   unfolding checkedVolumeAndReset
-  core-checked = unless-stays-muted (staysMuted (m .startup) (m .volume)) (max (m .volume) (m .least))
+  lasting-checked = unless-stays-muted (staysMuted (m .startup) (m .volume)) (max (m .volume) (m .least))
 
-  unless-zero : (t : Bool) (error : ℤ) → core (unlessZero t error m) ≡ core m
+  unless-zero : (t : Bool) (error : ℤ) → lasting (unlessZero t error m) ≡ lasting m
   unless-zero true error = refl
-  unless-zero false error = core-set (walk error (m .last) (m .least) maxInputVolume)
+  unless-zero false error = lasting-set (walk error (m .last) (m .least) maxInputVolume)
 
-  core-corrected : (error : RmsError) → core (corrected error m) ≡ core m
+  lasting-corrected : (error : RmsError) → lasting (corrected error m) ≡ lasting m
   unfolding corrected updatedInputVolume
-  core-corrected NoError = refl
-  core-corrected (Db error) = unless-zero (isZero (heldError error)) (heldError error)
+  lasting-corrected NoError = refl
+  lasting-corrected (Db error) = unless-zero (isZero (heldError error)) (heldError error)
 
-  core-waited : (t : Bool) (error : RmsError) → core (waited t error m) ≡ core m
+  lasting-waited : (t : Bool) (error : RmsError) → lasting (waited t error m) ≡ lasting m
   unfolding waited
-  core-waited true error = core-corrected error
-  core-waited false error = refl
+  lasting-waited true error = lasting-corrected error
+  lasting-waited false error = refl
 
-if-check : (t : Bool) (m : MonoInputVolumeController) → core (ifCheck t m) ≡ core m
-if-check true m = core-checked (flags (m .used) false (m .startup) m)
+if-check : (t : Bool) (m : MonoInputVolumeController) → lasting (ifCheck t m) ≡ lasting m
+if-check true m = lasting-checked (flags (m .used) false (m .startup) m)
 if-check false m = refl
 
-core-settled : (m : MonoInputVolumeController) → core (settled m) ≡ core m
+lasting-settled : (m : MonoInputVolumeController) → lasting (settled m) ≡ lasting m
 unfolding settled
-core-settled m = if-check (m .check) m
+lasting-settled m = if-check (m .check) m
 
-unless-waited : (t : Bool) (error : RmsError) (speech : ℕ) (m : MonoInputVolumeController) → core (unlessWaited t error speech m) ≡ core m
+unless-waited : (t : Bool) (error : RmsError) (speech : ℕ) (m : MonoInputVolumeController) → lasting (unlessWaited t error speech m) ≡ lasting m
 unless-waited true error speech m = refl
-unless-waited false error speech m = core-waited (counts 0 0 (m .first) m) (mayAct speech m) error
+unless-waited false error speech m = lasting-waited (counts 0 0 (m .first) m) (mayAct speech m) error
 
-core-counted : (error : RmsError) (speech : ℕ) (m : MonoInputVolumeController) → core (counted error speech m) ≡ core m
+lasting-counted : (error : RmsError) (speech : ℕ) (m : MonoInputVolumeController) → lasting (counted error speech m) ≡ lasting m
 unfolding counted
-core-counted error speech m = unless-waited (ltb (m .frames + 1) (m .wait)) error speech m
+lasting-counted error speech m = unless-waited (ltb (m .frames + 1) (m .wait)) error speech m
 
-core-processed : (error : RmsError) (probability : Float) (m : MonoInputVolumeController) → core (processed error probability m) ≡ core m
+pub lasting-processed : (error : RmsError) (probability : Float) (m : MonoInputVolumeController) → lasting (processed error probability m) ≡ lasting m
 unfolding processed
-core-processed error probability m = core-counted error (speechFrames probability (settled m)) (settled m) ∙ core-settled m
+lasting-processed error probability m = lasting-counted error (speechFrames probability (settled m)) (settled m) ∙ lasting-settled m
 
-core-clipped : (step : ℕ) (m : MonoInputVolumeController) → core (handledClipping step m) ≡ core m
+pub lasting-clipped : (step : ℕ) (m : MonoInputVolumeController) → lasting (handledClipping step m) ≡ lasting m
 unfolding handledClipping
-core-clipped step m = unless-at-floor (lowerCeiling step m) (leb (m .last) (m .floor)) (lowered m step (m .last))
+lasting-clipped step m = unless-at-floor (lowerCeiling step m) (leb (m .last) (m .floor)) (lowered m step (m .last))
 
 -- every call
 pub core-called : (call : ChannelCall) (m : MonoInputVolumeController) → core (called call m) ≡ core m
@@ -95,8 +99,8 @@ unfolding called handledCaptureOutputUsedChange
 core-called Initialize m = refl
 core-called (CaptureOutputUsed on) m = refl
 core-called (StreamAnalogLevel volume) m = refl
-core-called (Clipping step) m = core-clipped step m
-core-called (Process error probability) m = core-processed error probability m
+core-called (Clipping step) m = ap (flags true true true) (lasting-clipped step m)
+core-called (Process error probability) m = ap (flags true true true) (lasting-processed error probability m)
 
 -- and so of all channels
 pub cores-called : (call : ChannelCall) (channels : List MonoInputVolumeController) → map core (eachCalled call channels) ≡ map core channels

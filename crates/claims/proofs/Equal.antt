@@ -1,7 +1,7 @@
 -- All channels are as one: what every call keeps of one channel's state, all have together, and the first of them controls. Assumes nothing.
 use mathlib.Core.Path.{_≡_, refl, ap, _∙_}
 use mathlib.Core.Bool.{Bool}
-use mathlib.Core.List.{List, _∷_, map}
+use mathlib.Core.List.{List, [], _∷_, map}
 use Prim.Native.Nat.{ℕ, zero, suc, _+_, _≤_}
 use native.Mathlib.Omega.{arith}
 use lib.Ieee.{Float}
@@ -18,9 +18,11 @@ use Rattle.mono_input_volume_controller.specs.Mono.{created}
 use Rattle.input_volume_controller.specs.Channels.{called, eachCalled, lowerOf, aggregateFrom, aggregateOf}
 use Rattle.input_volume_controller.specs.Control.{Control}
 use Rattle.input_volume_controller.specs.ControlCalls.{aggregated, withAppliedInputVolume, initialize, lowerChannels, processChannels}
-use Rattle.input_volume_controller.specs.Controller.{freshWith}
-use Rattle.claims.specs.Equal.{EqualChannels}
-use Rattle.claims.proofs.Walk.{Keeps, after-keeps}
+use Rattle.input_volume_controller.specs.Controller.{Controller, freshWith}
+use Rattle.input_volume_controller.specs.Calls.{Call, step, after}
+use Rattle.claims.specs.Equal.{AsOne, EqualChannels}
+use Rattle.claims.proofs.Lists.{map-replicate}
+use Rattle.claims.proofs.Walk.{Keeps, step-keeps}
 
 -- ---- the lowest of equal volumes
 
@@ -66,10 +68,6 @@ pub record Alike (Q : MonoInputVolumeController → Type 0) (n : ℕ) (c : Contr
   pub one : One Q n (c .channels)
   pub first : c .controlling ≡ 0
 
-map-replicate : (f : MonoInputVolumeController → MonoInputVolumeController) (n : ℕ) (m : MonoInputVolumeController) → map f (replicate n m) ≡ replicate n (f m)
-map-replicate f zero m = refl
-map-replicate f (suc n) m = ap (λ (l : List MonoInputVolumeController). f m ∷ l) (map-replicate f n m)
-
 module _ (Q : MonoInputVolumeController → Type 0) (n : ℕ) where
   pub each-one : (call : ChannelCall) (channels : List MonoInputVolumeController) → ((m : MonoInputVolumeController) → Q m → Q (called call m)) → One Q n channels → One Q n (eachCalled call channels)
   each-one call channels f o = record {
@@ -105,8 +103,19 @@ module _ (Q : MonoInputVolumeController → Type 0) (n : ℕ) where
 any-state : Stays (λ m. Unit {0})
 any-state = record { initial = λ m q. q; switched = λ on m q. q; applied = λ volume m h q. q; lower = λ by m q. q; process = λ error probability m q. q }
 
+module _ (n : ℕ) where
+  -- one call keeps the channels as one: all that it asks of the call is that a frame's volume is that of every channel
+  pub as-one-called : (call : Call) (c : Controller) → AsOne n (c .control) → AsOne n (step c call .state .control)
+  as-one-called call c a =
+      let k =
+      step-keeps (Alike (λ m. Unit {0}) n) (alike-kept (λ m. Unit {0}) n any-state) call c (record { one = record { state = a .state; holds = tt; equal = a .equal }; first = a .first }) in
+      record { state = k .one .state; equal = k .one .equal; first = k .first }
+
+  as-one-after : (calls : List Call) (c : Controller) → AsOne n (c .control) → AsOne n (after c calls .control)
+  unfolding after
+  as-one-after [] c a = a
+  as-one-after (call ∷ calls) c a = as-one-after calls (step c call .state) (as-one-called call c a)
+
+-- THE CLAIM
 pub equal-channels : EqualChannels
-equal-channels predictor s count calls =
-    let a = after-keeps (Alike (λ m. Unit {0}) count) (alike-kept (λ m. Unit {0}) count any-state) calls (freshWith predictor s count)
-    (record { one = record { state = created s; holds = tt; equal = refl }; first = refl }) in
-    record { state = a .one .state; equal = a .one .equal; first = a .first }
+equal-channels predictor s count calls = as-one-after count calls (freshWith predictor s count) (record { state = created s; equal = refl; first = refl })

@@ -33,9 +33,9 @@ module _ {A : Type 0} (P : A → Type 0) where
   every-listed f zero h = tt
   every-listed f (suc n) h = (h 0 (omega arith), every-listed (λ i. f (suc i)) n (λ i k. h (suc i) (omega arith)))
 
-  pub every-map : (f : A → A) (xs : List A) → ((x : A) → P x → P (f x)) → Every P xs → Every P (map f xs)
-  every-map f [] h a = tt
-  every-map f (x ∷ xs) h a = (h x (a .0), every-map f xs h (a .1))
+  pub every-map : {B : Type 0} (Q : B → Type 0) (f : A → B) (xs : List A) → ((x : A) → P x → Q (f x)) → Every P xs → Every Q (map f xs)
+  every-map Q f [] h a = tt
+  every-map Q f (x ∷ xs) h a = (h x (a .0), every-map Q f xs h (a .1))
 
   pub every-replicate : (n : ℕ) (x : A) → P x → Every P (replicate n x)
   every-replicate zero x h = tt

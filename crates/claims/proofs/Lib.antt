@@ -43,6 +43,7 @@ pub mod EveryMode
 pub mod QuietSamples
 pub mod TwoPasts
 pub mod Exists
+pub mod OneSample
 pub mod TooFew
 pub mod InCode
 pub mod TwoMakings
@@ -50,6 +51,10 @@ pub mod Sane
 pub mod Inverse
 pub mod RunsExist
 pub mod Library
+pub mod Switch
+pub mod Depends
+pub mod DependsEach
+pub mod AsOneInCode
 pub mod Accepted
 pub mod Needed
 pub mod ExampleLines

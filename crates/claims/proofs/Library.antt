@@ -18,6 +18,7 @@ use Rattle.agc2.specs.Answers.{outcomeNumber}
 use Rattle.agc2.specs.Whole.{wholeOf}
 use Rattle.agc2.specs.Calls.{CreatedOf}
 use Rattle.claims.specs.Run as Runs
+use Rattle.claims.specs.RunsExist.{HasMaking}
 use Rattle.claims.specs.Library.{Numbers, ofFrame, ofRecommendation, inNumbers, LibraryCall, framed, recommended, initialised, switched, Heard, heardOf, LibraryRun, none, next, allInNumbers, RunsAs, MadeAs, LibraryRunsAreRuns}
 
 -- ---- one call
@@ -43,7 +44,7 @@ does-as good (switched {c = c} {on = on} h) = record { reply = done; does = does
 
 -- ---- lists of calls
 
-runs-as : {c : Agc2Controller} {calls : List Call} {all : List Heard} {e : Agc2Controller} → Good (wholeOf c) → LibraryRun c calls all e → RunsAs c calls all e
+pub runs-as : {c : Agc2Controller} {calls : List Call} {all : List Heard} {e : Agc2Controller} → Good (wholeOf c) → LibraryRun c calls all e → RunsAs c calls all e
 unfolding allInNumbers
 runs-as good none = record { heard = []; run = Runs.none; numbers = refl }
 runs-as good (next {d = d} one rest) =
@@ -65,15 +66,23 @@ accepted-at-zero : (answer : Outcome) → outcomeNumber (outcomeSays answer) ≡
 accepted-at-zero Outcome.Accepted e = refl
 accepted-at-zero (Outcome.Refused cause) e = absurd (refused-not-zero cause e)
 
+-- what the library's making hands back is what the controller's would
+abbrev pub made-created : (channels : ℤ) (config : Config) (c : Agc2Controller) → CreatedOf channels config c → HasMaking channels config
+made-created channels config c made = record {
+  made = record { answer = makingOf channels config .answer; controller = wholeOf c };
+  created = record { good = made .becomes .good; answer = refl; view = made .becomes .is };
+}
+
 made-as : (channels : ℤ) (config : Config) (c : Agc2Controller) (calls : List Call) (all : List Heard) (e : Agc2Controller) → CreatedOf channels config c → c .refusal ≡ 0 → LibraryRun c calls all e
     → MadeAs channels config calls all e
 made-as channels config c calls all e made zero run =
+    let m = made-created channels config c made in
     let r = runs-as (made .becomes .good) run in
     record {
       heard = r .heard;
       had = record {
-        made = record { answer = makingOf channels config .answer; controller = wholeOf c };
-        created = record { good = made .becomes .good; answer = refl; view = made .becomes .is };
+        made = m .made;
+        created = m .created;
         accepted = accepted-at-zero (makingOf channels config .answer) (sym (made .refusal) ∙ zero);
         run = r .run;
       };

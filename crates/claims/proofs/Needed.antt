@@ -1,12 +1,10 @@
 -- Parts of the lead-in that are needed: for each a past that can be told from no past at all. Assumes nothing.
 use mathlib.Core.Path.{_≡_, refl, ap}
-use mathlib.Core.Bool.{false}
 use mathlib.Core.List.{List, [], _∷_, _++_}
 use Prim.Native.Nat.{ℕ}
 use native.Mathlib.Omega.{arith}
 use lib.Dec.{lit≤}
-use lib.IntN.{pos}
-use lib.Ieee.{fin, add, mul, div, lt, le, eq, ofInt, ofBits}
+use lib.Ieee.{add, mul, div, lt, le, eq, ofInt, ofBits}
 use lib.ListN.{length, replicate}
 use Rattle.numbers.specs.Listed.{listed}
 use Rattle.numbers.specs.Natural.{withinOf}
@@ -35,12 +33,13 @@ use Rattle.input_volume_controller.specs.ControlCalls.{withAppliedInputVolume, 
 use Rattle.input_volume_controller.specs.Controller.{fresh}
 use Rattle.input_volume_controller.specs.Frame.{analyzeInputAudio}
 use Rattle.input_volume_controller.specs.Recommendation.{recommendInputVolume}
-use Rattle.input_volume_controller.specs.Calls.{Call, frame, recommendation, initialise, Answer, after, answers}
+use Rattle.input_volume_controller.specs.Calls.{Call, recommendation, initialise, Answer, after, answers}
 use Rattle.claims.specs.Past.{isAccepted}
 use Rattle.claims.specs.LeadIn.{all, acceptedBy, acceptedIn, isQuiet, quiet, isCalm, LeadIn}
 use Rattle.claims.specs.TwoPasts.{enough, RatioFromZero}
 use Rattle.claims.specs.Sharp.{waiting}
 use Rattle.claims.specs.Needed.{withoutInitialise, withVolumeZero, withCaptureOff, PartsAreNeeded}
+use Rattle.claims.proofs.OneSample.{still, clipped}
 
 abbrev settings : Settings
 settings = settingsFrom (waiting 0)
@@ -52,13 +51,6 @@ in-order = refl
 from-zero : RatioFromZero settings
 unfolding defaults settingsFrom ofBits le
 from-zero = tt
-
--- frames of one sample: of zero, and of 32,767, which is clipped
-abbrev still : ℕ → Call
-still volume = frame (pos volume) 1 (plusZero ∷ [])
-
-abbrev clipped : ℕ → Call
-clipped volume = frame (pos volume) 1 (fin false 32767 (pos 0) ∷ [])
 
 lead : LeadIn 1 quiet (enough settings)
 unfolding settingsFrom withinOf frameFits all isAccepted acceptedBy acceptedIn isQuiet quiet isCalm ofInt le eq

@@ -78,7 +78,7 @@ module _ (n : ℕ) where
         controlling = aggregateOf (eachCalled call (c .channels)) .channel;
       })
   called-sane call since used a b c g h =
-      let each = every-map Mono.Good (called call) (c .channels) g (h .each) in
+      let each = every-map Mono.Good Mono.Good (called call) (c .channels) g (h .each) in
       record {
         settings = h .settings;
         count = length-map (c .channels) (called call) ∙ h .count;
@@ -104,7 +104,7 @@ module _ (n : ℕ) where
     switches = λ on c h. record {
       settings = h .settings;
       count = length-map (c .channels) _ ∙ h .count;
-      each = every-map Mono.Good _ (c .channels) (good-stays .switched on) (h .each);
+      each = every-map Mono.Good Mono.Good _ (c .channels) (good-stays .switched on) (h .each);
       volume = h .volume;
     };
   }
@@ -137,7 +137,7 @@ module _ (n : ℕ) where
   emptied-sane p h = record {
     settings = h .settings;
     count = emptied-count p ∙ h .count;
-    each = every-map (Holds (p .settings)) (λ (r : List Level). []) (p .rings) (λ r k. zero-le) (h .each);
+    each = every-map (Holds (p .settings)) (Holds (p .settings)) (λ (r : List Level). []) (p .rings) (λ r k. zero-le) (h .each);
   }
 
   handled-sane : (t : Bool) (by : ℕ) (c : Controller) → SanePredictor n (c .predictor) → SanePredictor n (handleIf t by c .predictor)

@@ -1,12 +1,10 @@
 -- Two accepted frames fewer do not do: a counterexample with no clipping wait, and one with the default wait. Assumes nothing.
 use mathlib.Core.Path.{_≡_, refl, ap}
-use mathlib.Core.Bool.{false}
 use mathlib.Core.List.{List, [], _∷_, _++_}
 use Prim.Native.Nat.{ℕ, _-_, _≤_}
 use native.Mathlib.Omega.{arith}
 use lib.Dec.{T, lit≤}
-use lib.IntN.{pos}
-use lib.Ieee.{fin, add, mul, div, lt, le, eq, ofInt, ofBits}
+use lib.Ieee.{add, mul, div, lt, le, eq, ofInt, ofBits}
 use lib.ListN.{length, replicate}
 use Rattle.numbers.specs.Listed.{listed}
 use Rattle.numbers.specs.Natural.{withinOf}
@@ -33,25 +31,16 @@ use Rattle.input_volume_controller.specs.ControlCalls.{withAppliedInputVolume, 
 use Rattle.input_volume_controller.specs.Controller.{fresh}
 use Rattle.input_volume_controller.specs.Frame.{analyzeInputAudio}
 use Rattle.input_volume_controller.specs.Recommendation.{recommendInputVolume}
-use Rattle.input_volume_controller.specs.Calls.{Call, frame, initialise, Answer, after, answers}
+use Rattle.input_volume_controller.specs.Calls.{Call, initialise, Answer, after, answers}
 use Rattle.claims.specs.Past.{isAccepted}
 use Rattle.claims.specs.LeadIn.{all, acceptedBy, acceptedIn, isQuiet, quiet, isCalm, LeadIn, callsOf}
 use Rattle.claims.specs.TwoPasts.{enough, RatioFromZero}
 use Rattle.claims.specs.Sharp.{waiting, TwoFewerAreTooFew}
-
--- frames of one sample: of zero, of 30,000, and of 32,767, which is clipped
-abbrev still : ℕ → Call
-still volume = frame (pos volume) 1 (plusZero ∷ [])
-
-abbrev loud : Call
-loud = frame (pos 50) 1 (fin false 1875 (pos 4) ∷ [])
-
-abbrev clipped : Call
-clipped = frame (pos 100) 1 (fin false 32767 (pos 0) ∷ [])
+use Rattle.claims.proofs.OneSample.{still, loud, clipped}
 
 -- a past of six frames, the last two loud, at a volume at which no estimate is made
 abbrev past : List Call
-past = still 50 ∷ still 50 ∷ still 50 ∷ still 50 ∷ loud ∷ loud ∷ []
+past = still 50 ∷ still 50 ∷ still 50 ∷ still 50 ∷ loud 50 ∷ loud 50 ∷ []
 
 -- Quiet frames. The fourth is at a volume at which an estimate is made: with that past it predicts clipping, and the rings are emptied as late as can be.
 abbrev body : ℕ → List Call
@@ -103,7 +92,7 @@ initialised before = answers (after (fresh (settings 0) 1) (before ++ callsOf 1 
 
 -- a clipped frame shows that with that past the wait is not over: without it the frame empties the ring
 clippedAfter : List Call → List Answer
-clippedAfter before = answers (after (fresh (settings 300) 1) (before ++ callsOf 1 quiet three-hundred-two)) (clipped ∷ [])
+clippedAfter before = answers (after (fresh (settings 300) 1) (before ++ callsOf 1 quiet three-hundred-two)) (clipped 100 ∷ [])
 
 -- what the two show with that past and without
 record Shown : Type 0 where
@@ -142,6 +131,6 @@ two-fewer-are-too-few = record {
     settings = settings 300;
     made = default-in-order;
     ratio = from-zero 300;
-    refuted = λ alike. let e : shown (clippedAfter past) ≡ shown (clippedAfter []) = ap shown (alike three-hundred-two past [] (clipped ∷ [])) in omega (arith, e, computed .full, computed .empty);
+    refuted = λ alike. let e : shown (clippedAfter past) ≡ shown (clippedAfter []) = ap shown (alike three-hundred-two past [] (clipped 100 ∷ [])) in omega (arith, e, computed .full, computed .empty);
   };
 }

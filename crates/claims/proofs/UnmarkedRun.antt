@@ -114,7 +114,7 @@ pub record Exactly (s t : Stepped) : Type 0 where
   same : NotNear (s .reply) → s ≡ t
 
 handle-fits : (t : Bool) (by : ℕ) (c : Controller) → Every (Every PeakFits) (c .predictor .rings) → Every (Every PeakFits) (handleIf t by c .predictor .rings)
-handle-fits true by c f = every-map (Every PeakFits) (λ (r : List Level). []) (c .predictor .rings) (λ r h. tt) f
+handle-fits true by c f = every-map (Every PeakFits) (Every PeakFits) (λ (r : List Level). []) (c .predictor .rings) (λ r h. tt) f
 handle-fits false by c f = f
 
 waiting-exact : (waits clipped : Bool) (c : Controller) → Every (Every PeakFits) (c .predictor .rings) → Exactly (unlessWaiting waits clipped c) (unlessWaitingBy exactPredicted waits clipped c)

@@ -23,6 +23,9 @@ use Rattle.claims.specs.Starred.{StarredCases}
 use Rattle.claims.specs.ExampleLines.{ExampleLines}
 use Rattle.claims.specs.GainTable.{NeverFalls}
 use Rattle.claims.specs.Equal.{EqualChannels}
+use Rattle.claims.specs.Depends.{DependsOnOne, SaidByOthers}
+use Rattle.claims.specs.DependsEach.{DependsOnEach}
+use Rattle.claims.specs.AsOneInCode.{AsOneInCode, AsOneInLibrary}
 use Rattle.claims.specs.None.{NoneExactly}
 
 pub record Claims : Type 0 where
@@ -69,5 +72,13 @@ pub record Claims : Type 0 where
   pub gains : NeverFalls
   -- after any calls all channels are equal, and the first controls
   pub equal : EqualChannels
+  -- besides the calls' own inputs the replies depend on the settings, one channel's state, the rings, the count of frames since clipping and the pending volume alone, whatever the controller's own
+  -- volume is; the channel count and the capture switch are said by these, and of these none can be spared
+  pub depends-on-one : DependsOnOne
+  pub said-by-others : SaidByOthers
+  pub depends-on-each : DependsOnEach
+  -- both, of the code and of the static library, from every making on, accepted or refused
+  pub as-one-in-code : AsOneInCode
+  pub as-one-in-library : AsOneInLibrary
   -- the recommendation is none exactly if no frame was accepted since the latest of making, initialise and recommendation with capture on
   pub none : NoneExactly

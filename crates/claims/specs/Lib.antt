@@ -20,6 +20,9 @@ pub mod Free
 pub mod Made
 pub mod RunsExist
 pub mod Library
+pub mod Depends
+pub mod DependsEach
+pub mod AsOneInCode
 pub mod Exact
 pub mod Unmarked
 pub mod ExactRun

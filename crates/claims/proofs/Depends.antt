@@ -1,0 +1,141 @@
+-- No call reads the controller's own volume or the controlling channel before it takes them anew; and where the channels are as one, one of them stands for all. Assumes nothing.
+use mathlib.Core.Path.{_≡_, refl, sym, ap, _∙_}
+use mathlib.Core.Bool.{Bool, true, false}
+use mathlib.Core.List.{List, [], _∷_}
+use Prim.Native.Nat.{ℕ, _<_}
+use native.Mathlib.Omega.{arith}
+use lib.IntN.{pos}
+use lib.Ieee.{Float}
+use lib.ListN.{length, getD, replicate, getD-replicate, length-replicate}
+use Rattle.numbers.specs.declared.natural.Natural.{Natural}
+use Rattle.numbers.specs.declared.natural.Natural.the-variants.{Number, Outside}
+use Rattle.numbers.specs.Natural.{withinOf}
+use Rattle.clipping_predictor.specs.Predictor.{frameFits}
+use Rattle.mono_input_volume_controller.specs.declared.mono.MonoInputVolumeController.{MonoInputVolumeController}
+use Rattle.mono_input_volume_controller.specs.declared.speech_level.SpeechLevel.{SpeechLevel}
+use Rattle.mono_input_volume_controller.specs.MonoState.{maxInputVolume}
+use Rattle.input_volume_controller.specs.declared.Applied.{Applied}
+use Rattle.input_volume_controller.specs.declared.Applied.the-variants.{Nothing, Volume}
+use Rattle.input_volume_controller.specs.Channels.{noChannel}
+use Rattle.input_volume_controller.specs.Control.{Control, withApplied, withVolume}
+use Rattle.input_volume_controller.specs.ControlCalls.{aggregated, withAppliedInputVolume, initialize, processChannels}
+use Rattle.input_volume_controller.specs.Controller.{Controller, freshWith}
+use Rattle.input_volume_controller.specs.Reply.{Stepped}
+use Rattle.input_volume_controller.specs.Reply as Reply
+use Rattle.input_volume_controller.specs.Frame.{ifUsed, withVolumeApplied, unlessRefused, analyzeInputAudio}
+use Rattle.input_volume_controller.specs.Recommendation.{recommendIf, unlessNone, recommendInputVolume}
+use Rattle.input_volume_controller.specs.Calls.{Call, frame, recommendation, initialise, captureSwitch, step, answers}
+use Rattle.claims.specs.Equal.{AsOne}
+use Rattle.claims.specs.Depends.{History, standing, settings, oneChannel, rings, sinceClipping, pendingVolume, stateOf, AgreeInAll, ReplyAlike, DependsOnOne, SaidByOthers}
+use Rattle.claims.proofs.Every.{every-at}
+use Rattle.claims.proofs.Equal.{equal-channels}
+use Rattle.claims.proofs.Kept.{kept-fresh, kept-after}
+use Rattle.claims.proofs.Switch.{IsUsed, Follows, follows-after}
+
+-- ---- one call
+
+-- a controller with its volume and controlling channel wiped out
+abbrev bare : Controller → Controller
+bare c = record { control = withVolume 0 0 (c .control); predictor = c .predictor }
+
+-- two that are equal but for these; their channels may differ from each other
+record EqualBare (a b : Stepped) : Type 0 where
+  reply : a .reply ≡ b .reply
+  state : bare (a .state) ≡ bare (b .state)
+
+-- each call does with the bare controller what it does with the whole
+bare-frame : (v : Natural) (fits : Bool) (samples : ℕ) (lent : List Float) (c : Controller) → EqualBare (unlessRefused v fits samples lent (bare c)) (unlessRefused v fits samples lent c)
+unfolding withAppliedInputVolume aggregated
+bare-frame Outside fits samples lent c = record { reply = refl; state = refl }
+bare-frame (Number volume) false samples lent c = record { reply = refl; state = refl }
+bare-frame (Number volume) true samples lent c = record { reply = refl; state = refl }
+
+bare-recommends : (used : Bool) (applied : ℕ) (probability : Float) (level : SpeechLevel) (c : Controller)
+    → EqualBare (recommendIf used applied probability level (bare c)) (recommendIf used applied probability level c)
+unfolding processChannels aggregated
+bare-recommends true applied probability level c = record { reply = refl; state = refl }
+bare-recommends false applied probability level c = record { reply = refl; state = refl }
+
+bare-asked : (a : Applied) (probability : Float) (level : SpeechLevel) (c : Controller) → EqualBare (unlessNone a probability level (bare c)) (unlessNone a probability level c)
+bare-asked Nothing probability level c = record { reply = refl; state = refl }
+bare-asked (Volume applied) probability level c = bare-recommends (c .control .used) applied probability level c
+
+bare-step : (c : Controller) (call : Call) → EqualBare (step (bare c) call) (step c call)
+unfolding analyzeInputAudio recommendInputVolume initialize aggregated
+bare-step c (frame volume samples lent) = bare-frame (withinOf 0 maxInputVolume volume) (frameFits (length (c .control .channels)) samples lent) samples lent c
+bare-step c (recommendation probability level) = bare-asked (c .control .applied) probability level c
+bare-step c initialise = record { reply = refl; state = refl }
+bare-step c (captureSwitch on) = record { reply = refl; state = refl }
+
+-- so two that are equal but for these are so after the call, and reply alike
+step-bare : (a b : Controller) (call : Call) → bare a ≡ bare b → EqualBare (step a call) (step b call)
+step-bare a b call e =
+    let x = bare-step a call in
+    let y = bare-step b call in
+    record {
+      reply = sym (x .reply) ∙ ap (λ (c : Controller). step c call .reply) e ∙ y .reply;
+      state = sym (x .state) ∙ ap (λ (c : Controller). bare (step c call .state)) e ∙ y .state;
+    }
+
+-- and so to every list of calls
+pub bare-replies : (a b : Controller) → bare a ≡ bare b → ReplyAlike a b
+unfolding answers
+bare-replies a b e [] = refl
+bare-replies a b e (call ∷ calls) =
+    let s = step-bare a b call e in
+    let rest = bare-replies (step a call .state) (step b call .state) (s .state) calls in
+    λ i. s .reply i ∷ rest i
+
+-- ---- one channel
+
+-- what a past leaves: channels as one, a ring for each, and the switch that each of them has
+pub record Left (n : ℕ) (c : Controller) : Type 0 where
+  pub one : AsOne n (c .control)
+  pub count : length (c .predictor .rings) ≡ n
+  pub follows : Follows (c .control)
+
+pub left : (h : History) → Left (h .channels) (standing h)
+left h =
+    let fresh = freshWith (h .predictor) (h .settings) (h .channels) in
+    record {
+      one = equal-channels (h .predictor) (h .settings) (h .channels) (h .calls);
+      count = kept-after (h .predictor) (h .settings) (h .channels) (h .calls) fresh (kept-fresh (h .predictor) (h .settings) (h .channels)) .count;
+      follows = follows-after (h .predictor) (h .settings) (h .channels) (h .calls);
+    }
+
+module _ (n : ℕ) (c : Controller) (l : Left n c) (channel : ℕ) (inside : channel < n) where
+  -- any channel is the one that all are
+  is-one : stateOf channel c ≡ l .one .state
+  is-one = ap (λ (ms : List MonoInputVolumeController). getD ms channel noChannel) (l .one .equal) ∙ getD-replicate n channel (l .one .state) noChannel inside
+
+  pub is-switch : stateOf channel c .used ≡ c .control .used
+  is-switch = every-at (IsUsed (c .control .used)) (c .control .channels) channel noChannel (l .follows) (omega (arith, ap length (l .one .equal), length-replicate n (l .one .state), inside))
+
+-- two that agree in one channel's state and the rest are equal but for their volumes and controlling channels
+pub agree-bare : (n m : ℕ) (a b : Controller) → Left n a → Left m b → (channel : ℕ) → channel < n → AgreeInAll channel a b → bare a ≡ bare b
+agree-bare n m a b x y channel inside g =
+    let same : n ≡ m = sym (x .count) ∙ ap length (g rings) ∙ y .count in
+    let there : channel < m = omega (arith, same, inside) in
+    let state : x .one .state ≡ y .one .state = sym (is-one n a x channel inside) ∙ g oneChannel ∙ is-one m b y channel there in
+    let channels : a .control .channels ≡ b .control .channels = x .one .equal ∙ (λ i. replicate (same i) (state i)) ∙ sym (y .one .equal) in
+    let used : a .control .used ≡ b .control .used =
+    sym (is-switch n a x channel inside) ∙ ap (λ (k : MonoInputVolumeController). k .used) (g oneChannel) ∙ is-switch m b y channel there in
+    λ i. record {
+      control = record {
+        settings = g settings .0 i;
+        channels = channels i;
+        since = g sinceClipping i;
+        used = used i;
+        applied = g pendingVolume i;
+        volume = 0;
+        controlling = 0;
+      };
+      predictor = record { settings = g settings .1 i; rings = g rings i };
+    }
+
+-- THE CLAIMS
+pub depends-on-one : DependsOnOne
+depends-on-one one other channel inside g = bare-replies _ _ (agree-bare (one .channels) (other .channels) (standing one) (standing other) (left one) (left other) channel inside g)
+
+pub said-by-others : SaidByOthers
+said-by-others = record { count = λ h. left h .count; switch = λ h channel inside. is-switch (h .channels) (standing h) (left h) channel inside }

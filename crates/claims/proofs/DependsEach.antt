@@ -1,0 +1,271 @@
+-- For each part that the replies depend on two controllers that agree in all others and do not reply alike, computed: all of one channel, with the default settings or near them. Assumes nothing.
+use mathlib.Core.Path.{_≡_, refl, sym, ap, _∙_}
+use mathlib.Core.Bool.{false}
+use mathlib.Core.List.{List, [], _∷_}
+use Prim.Native.Nat.{ℕ}
+use native.Mathlib.Omega.{arith}
+use lib.IntN.{ℤ, pos, negsuc, natAbs}
+use lib.Ieee.{add, sub, mul, div, lt, le, ofInt, ofBits, binary32}
+use Rattle.numbers.specs.declared.natural.Natural.the-variants.{Number}
+use Rattle.numbers.specs.First.{searched, first}
+use Rattle.numbers.specs.Sign.{signed}
+use Rattle.numbers.specs.Listed.{listed}
+use Rattle.numbers.specs.Natural.{withinOf}
+use Rattle.levels.specs.Decibels.{minus, less, atMost}
+use Rattle.levels.specs.FloatParts.{magnitudeOf}
+use Rattle.levels.specs.Rounding.{halfUp, roundOf}
+use Rattle.levels.specs.Level as Decibel
+use Rattle.levels.specs.Level.{dbfs}
+use Rattle.gain_map.specs.GainMap.{gain, gainMap}
+use Rattle.gain_map.specs.VolumeUpdate.{rise, fall, walk}
+use Rattle.clipping_predictor_level_buffer.specs.Level.{frameRecord}
+use Rattle.clipping_predictor_level_buffer.specs.Metrics.{metricsOver, partialMetrics}
+use Rattle.clipping_predictor_level_buffer.specs.Statistics.{plusZero, sum, mean, largest}
+use Rattle.clipping_predictor.specs.Tree.{reached}
+use Rattle.clipping_predictor.specs.Estimate.{dropBy, adaptiveDrop, estimateTree}
+use Rattle.clipping_predictor.specs.Predictor.{pushEach, frameFits}
+use Rattle.mono_input_volume_controller.specs.declared.config.Config.{Config}
+use Rattle.mono_input_volume_controller.specs.declared.config.Checked.the-variants.{InOrder}
+use Rattle.mono_input_volume_controller.specs.declared.speech_level.SpeechLevel.the-variants.{Absent, Dbfs}
+use Rattle.mono_input_volume_controller.specs.SpeechLevel.{held, errorOf, rmsErrorOf}
+use Rattle.mono_input_volume_controller.specs.Mono.{isUsers}
+use Rattle.mono_input_volume_controller.specs.Config.{defaults, settingsFrom, settingsOf}
+use Rattle.input_volume_controller.specs.ClippedRatio.{countOf, clippedIn, mostClipped, clippedRatio}
+use Rattle.input_volume_controller.specs.Channels.{called, aggregateOf}
+use Rattle.input_volume_controller.specs.ControlCalls.{withAppliedInputVolume, initialize, lowerChannels}
+use Rattle.input_volume_controller.specs.Controller.{predictorSettings, madeOf, makingOf}
+use Rattle.input_volume_controller.specs.Reply.{Reply}
+use Rattle.input_volume_controller.specs.Reply as Reply
+use Rattle.input_volume_controller.specs.Frame.{analyzeInputAudio}
+use Rattle.input_volume_controller.specs.Recommendation.{recommendInputVolume}
+use Rattle.input_volume_controller.specs.Calls.{Call, recommendation, initialise, captureSwitch, after, answers}
+use Rattle.claims.specs.Depends.{History, standing, Part, settings, oneChannel, rings, sinceClipping, pendingVolume, AgreeIn, AgreeInAll, repliesIn, ReplyAlike}
+use Rattle.claims.specs.DependsEach.{Taken, Two, Needed, VolumeIsOpen, DependsOnEach}
+use Rattle.claims.proofs.OneSample.{still, loud, clipped}
+
+-- ---- controllers of one channel
+
+-- made with a configuration
+abbrev since : Config → List Call → History
+since config calls = record { predictor = predictorSettings (settingsFrom config .predicts); settings = settingsFrom config; channels = 1; calls = calls }
+
+-- the default settings, but with this lower target, and so that the speech error may act at every recommendation
+abbrev aiming : ℤ → Config
+aiming target = record {
+  «min_input_volume» = defaults .«min_input_volume»;
+  «clipped_level_min» = defaults .«clipped_level_min»;
+  «clipped_level_step» = defaults .«clipped_level_step»;
+  «clipped_ratio_threshold» = defaults .«clipped_ratio_threshold»;
+  «clipped_wait_frames» = defaults .«clipped_wait_frames»;
+  «enable_clipping_predictor» = defaults .«enable_clipping_predictor»;
+  «target_range_max_dbfs» = defaults .«target_range_max_dbfs»;
+  «target_range_min_dbfs» = target;
+  «update_input_volume_wait_frames» = pos 1;
+  «speech_probability_threshold» = defaults .«speech_probability_threshold»;
+  «speech_ratio_threshold» = defaults .«speech_ratio_threshold»;
+}
+
+abbrev InRange : Config → Type 0
+InRange config = settingsOf config ≡ InOrder (settingsFrom config)
+
+taken : (config : Config) (calls : List Call) → InRange config → Taken (since config calls)
+unfolding makingOf madeOf withinOf
+taken config calls e = record { config = config; made = ap (madeOf (Number 1)) e }
+
+-- ---- what they reply
+
+-- the last recommendation's volume, and 256 for none
+saidBy : ℕ → Reply → ℕ
+saidBy before (Reply.volume v) = natAbs v
+saidBy before Reply.none = 256
+saidBy before (Reply.mark near) = before
+saidBy before (Reply.refusal number) = before
+saidBy before Reply.done = before
+
+lastIn : ℕ → List Reply → ℕ
+lastIn before [] = before
+lastIn before (r ∷ replies) = lastIn (saidBy before r) replies
+
+shown : History → List Call → ℕ
+shown h calls = lastIn 256 (repliesIn (answers (standing h) calls))
+
+-- ---- an example
+
+-- two agree in a part, unless it is left out
+abbrev Fact : (Part → Type 0) → Part → History → History → Type 0
+Fact Out same one other = (Out same → ⊥) → AgreeIn 0 same (standing one) (standing other)
+
+record Facts (Out : Part → Type 0) (one other : History) : Type 0 where
+  in-settings : Fact Out settings one other
+  in-one-channel : Fact Out oneChannel one other
+  in-rings : Fact Out rings one other
+  in-since-clipping : Fact Out sinceClipping one other
+  in-pending-volume : Fact Out pendingVolume one other
+
+agreed : (Out : Part → Type 0) (one other : History) → Facts Out one other → (same : Part) → Fact Out same one other
+agreed Out one other f settings = f .in-settings
+agreed Out one other f oneChannel = f .in-one-channel
+agreed Out one other f rings = f .in-rings
+agreed Out one other f sinceClipping = f .in-since-clipping
+agreed Out one other f pendingVolume = f .in-pending-volume
+
+-- this part is left out, or none
+abbrev Just : Part → Part → Type 0
+Just part same = same ≡ part
+
+abbrev Never : Part → Type 0
+Never same = ⊥
+
+-- two configurations and pasts, and calls that show different volumes
+record Example (part : Part) : Type 0 where
+  one : Config
+  other : Config
+  past : List Call
+  before : List Call
+  calls : List Call
+  one-taken : InRange one
+  other-taken : InRange other
+  agree : Facts (Just part) (since one past) (since other before)
+  volume : ℕ
+  another : ℕ
+  one-shows : shown (since one past) calls ≡ volume
+  other-shows : shown (since other before) calls ≡ another
+  apart : volume ≡ another → ⊥
+
+-- a recommendation without speech, and one with speech of -60 dBFS
+abbrev silent : Call
+silent = recommendation plusZero Absent
+
+abbrev spoken : Call
+spoken = recommendation (ofInt binary32 (pos 1)) (Dbfs (ofInt binary32 (negsuc 59)))
+
+example : (part : Part) → Example part
+unfolding saidBy lastIn shown listed withinOf minus less atMost magnitudeOf Decibel.levelOf dbfs first searched gain gainMap rise fall walk frameRecord metricsOver partialMetrics sum mean largest dropBy adaptiveDrop estimateTree pushEach frameFits reached after answers called aggregateOf countOf clippedIn mostClipped clippedRatio rmsErrorOf held errorOf roundOf signed halfUp isUsers defaults settingsFrom settingsOf withAppliedInputVolume initialize lowerChannels analyzeInputAudio recommendInputVolume ofInt ofBits add sub mul div lt le
+-- 10 dB below the lower target, or above it
+example settings = record {
+  one = aiming (negsuc 49);
+  other = aiming (negsuc 69);
+  past = [];
+  before = [];
+  calls = still 100 ∷ spoken ∷ still 100 ∷ spoken ∷ [];
+  one-taken = refl;
+  other-taken = refl;
+  agree = record { in-settings = λ h. absurd (h refl); in-one-channel = λ h. refl; in-rings = λ h. refl; in-since-clipping = λ h. refl; in-pending-volume = λ h. refl };
+  volume = 134;
+  another = 100;
+  one-shows = refl;
+  other-shows = refl;
+  apart = λ e. omega (arith, e);
+}
+-- a recommendation has ended the startup, after which a volume of 0 is left alone
+example oneChannel = record {
+  one = defaults;
+  other = defaults;
+  past = still 100 ∷ silent ∷ still 100 ∷ [];
+  before = still 100 ∷ still 100 ∷ [];
+  calls = still 0 ∷ silent ∷ [];
+  one-taken = refl;
+  other-taken = refl;
+  agree = record { in-settings = λ h. (refl, refl); in-one-channel = λ h. absurd (h refl); in-rings = λ h. refl; in-since-clipping = λ h. refl; in-pending-volume = λ h. refl };
+  volume = 0;
+  another = 20;
+  one-shows = refl;
+  other-shows = refl;
+  apart = λ e. omega (arith, e);
+}
+-- loud frames at a volume at which no estimate is made; the last one's estimate predicts clipping
+example rings = record {
+  one = defaults;
+  other = defaults;
+  past = still 200 ∷ silent ∷ still 50 ∷ still 50 ∷ still 50 ∷ loud 50 ∷ loud 50 ∷ [];
+  before = still 200 ∷ silent ∷ still 50 ∷ still 50 ∷ still 50 ∷ still 50 ∷ still 50 ∷ [];
+  calls = still 50 ∷ still 50 ∷ still 50 ∷ still 200 ∷ silent ∷ [];
+  one-taken = refl;
+  other-taken = refl;
+  agree = record { in-settings = λ h. (refl, refl); in-one-channel = λ h. refl; in-rings = λ h. absurd (h refl); in-since-clipping = λ h. refl; in-pending-volume = λ h. refl };
+  volume = 185;
+  another = 200;
+  one-shows = refl;
+  other-shows = refl;
+  apart = λ e. omega (arith, e);
+}
+-- a clipped frame has started the wait, in which another clipped frame only counts
+example sinceClipping = record {
+  one = defaults;
+  other = defaults;
+  past = captureSwitch false ∷ still 100 ∷ initialise ∷ [];
+  before = clipped 100 ∷ initialise ∷ [];
+  calls = still 100 ∷ silent ∷ clipped 100 ∷ silent ∷ [];
+  one-taken = refl;
+  other-taken = refl;
+  agree = record { in-settings = λ h. (refl, refl); in-one-channel = λ h. refl; in-rings = λ h. refl; in-since-clipping = λ h. absurd (h refl); in-pending-volume = λ h. refl };
+  volume = 85;
+  another = 100;
+  one-shows = refl;
+  other-shows = refl;
+  apart = λ e. omega (arith, e);
+}
+-- with capture off a frame leaves its volume pending and nothing else
+example pendingVolume = record {
+  one = defaults;
+  other = defaults;
+  past = captureSwitch false ∷ [];
+  before = captureSwitch false ∷ still 0 ∷ [];
+  calls = silent ∷ [];
+  one-taken = refl;
+  other-taken = refl;
+  agree = record { in-settings = λ h. (refl, refl); in-one-channel = λ h. refl; in-rings = λ h. refl; in-since-clipping = λ h. refl; in-pending-volume = λ h. absurd (h refl) };
+  volume = 256;
+  another = 0;
+  one-shows = refl;
+  other-shows = refl;
+  apart = λ e. omega (arith, e);
+}
+
+two : {part : Part} → Example part → Two
+two x = record { one = since (x .one) (x .past); other = since (x .other) (x .before); one-taken = taken (x .one) (x .past) (x .one-taken); other-taken = taken (x .other) (x .before) (x .other-taken) }
+
+needed : (part : Part) → Needed part
+unfolding two shown
+needed part =
+    let x = example part in
+    record {
+      two = two x;
+      agree = agreed (Just part) _ _ (x .agree);
+      apart = λ alike. x .apart (sym (x .one-shows) ∙ ap (lastIn 256) (alike (x .calls)) ∙ x .other-shows);
+    }
+
+-- ---- the controller's own volume
+
+-- an initialise takes the volume with the applied one still pending, so raised to the minimum; a second one takes it with none pending
+abbrev raised : History
+raised = since defaults (still 10 ∷ initialise ∷ [])
+
+abbrev unraised : History
+unraised = since defaults (still 10 ∷ initialise ∷ initialise ∷ [])
+
+record Open : Type 0 where
+  agree : Facts Never raised unraised
+  one-taken : InRange defaults
+  one-shows : standing raised .control .volume ≡ 20
+  other-shows : standing unraised .control .volume ≡ 10
+
+open-volume : Open
+unfolding listed withinOf minus less atMost magnitudeOf Decibel.levelOf dbfs frameRecord metricsOver partialMetrics sum mean largest dropBy adaptiveDrop estimateTree pushEach frameFits reached after called aggregateOf countOf clippedIn mostClipped clippedRatio defaults settingsFrom settingsOf withAppliedInputVolume initialize lowerChannels analyzeInputAudio ofInt ofBits add mul div lt le
+open-volume = record {
+  agree = record { in-settings = λ h. (refl, refl); in-one-channel = λ h. refl; in-rings = λ h. refl; in-since-clipping = λ h. refl; in-pending-volume = λ h. refl };
+  one-taken = refl;
+  one-shows = refl;
+  other-shows = refl;
+}
+
+volume-is-open : VolumeIsOpen
+volume-is-open = record {
+  two = record { one = raised; other = unraised; one-taken = taken defaults _ (open-volume .one-taken); other-taken = taken defaults _ (open-volume .one-taken) };
+  agree = λ same. agreed Never raised unraised (open-volume .agree) same (λ none. none);
+  apart = λ e. omega (arith, e, open-volume .one-shows, open-volume .other-shows);
+}
+
+-- THE CLAIM
+pub depends-on-each : DependsOnEach
+depends-on-each = record { needed = needed; volume-is-open = volume-is-open }

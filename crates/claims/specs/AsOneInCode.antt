@@ -1,0 +1,61 @@
+-- The claims `EqualChannels` and `DependsOnOne`, of the code and of the static library: of every controller that a making handed back, whether it accepted or refused, after any run of its calls,
+-- accepted and refused. Definitions only.
+use mathlib.Core.Path.{_≡_}
+use mathlib.Core.List.{List, map}
+use Prim.Native.Nat.{ℕ, _<_}
+use lib.IntN.{ℤ}
+use Rattle.mono_input_volume_controller.specs.declared.config.Config.{Config}
+use Rattle.input_volume_controller.specs.declared.InputVolumeController.{InputVolumeController}
+use Rattle.input_volume_controller.specs.declared.Created.{Created}
+use Rattle.input_volume_controller.specs.Controller.{viewOf, CreatedOf}
+use Rattle.input_volume_controller.specs.Calls.{Call, Answer}
+use Rattle.agc2.specs.declared.answers.Agc2Controller.{Agc2Controller}
+use Rattle.agc2.specs.Whole.{wholeOf}
+use Rattle.agc2.specs.Calls as Library
+use Rattle.claims.specs.Run.{Run}
+use Rattle.claims.specs.Library.{Numbers, Heard, LibraryRun}
+use Rattle.claims.specs.Equal.{AsOne}
+use Rattle.claims.specs.Depends.{AgreeInAll, repliesIn}
+
+abbrev pub channelsIn : InputVolumeController → ℕ
+channelsIn c = c .control .channels .count
+
+-- ---- the code
+
+-- what `InputVolumeController::new` handed back is what its contract says, and c is that controller after some calls, of which this was heard
+pub record HasPast (c : InputVolumeController) : Type 0 where
+  pub channels : ℤ
+  pub config : Config
+  pub made : Created
+  pub created : CreatedOf channels config made
+  pub calls : List Call
+  pub heard : List Answer
+  pub run : Run (made .controller) calls heard c
+
+-- THE CLAIM, of the code
+pub record AsOneInCode : Type 0 where
+  pub equal : (c : InputVolumeController) → HasPast c → AsOne (channelsIn c) (viewOf c .control)
+  pub depends : (a b : InputVolumeController) → HasPast a → HasPast b → (channel : ℕ) → channel < channelsIn a → AgreeInAll channel (viewOf a) (viewOf b)
+      → (calls : List Call) (one other : List Answer) (c d : InputVolumeController) → Run a calls one c → Run b calls other d → repliesIn one ≡ repliesIn other
+
+-- ---- the static library
+
+-- the same of `agc2_new_by_value` and the exported calls
+pub record HasLibraryPast (c : Agc2Controller) : Type 0 where
+  pub channels : ℤ
+  pub config : Config
+  pub made : Agc2Controller
+  pub created : Library.CreatedOf channels config made
+  pub calls : List Call
+  pub heard : List Heard
+  pub run : LibraryRun made calls heard c
+
+-- of what is heard the numbers that the calls answer alone: a frame's refusal and mark, a recommendation's flag and volume
+abbrev pub numbersIn : List Heard → List Numbers
+numbersIn all = map (λ (h : Heard). h .numbers) all
+
+-- THE CLAIM, of the static library
+pub record AsOneInLibrary : Type 0 where
+  pub equal : (c : Agc2Controller) → HasLibraryPast c → AsOne (channelsIn (wholeOf c)) (viewOf (wholeOf c) .control)
+  pub depends : (a b : Agc2Controller) → HasLibraryPast a → HasLibraryPast b → (channel : ℕ) → channel < channelsIn (wholeOf a) → AgreeInAll channel (viewOf (wholeOf a)) (viewOf (wholeOf b))
+      → (calls : List Call) (one other : List Heard) (c d : Agc2Controller) → LibraryRun a calls one c → LibraryRun b calls other d → numbersIn one ≡ numbersIn other
