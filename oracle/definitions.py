@@ -21,6 +21,7 @@ GAIN = "crates/gain_map/specs/"
 RING = "crates/clipping_predictor_level_buffer/specs/"
 PREDICTOR = "crates/clipping_predictor/specs/"
 IVC = "crates/input_volume_controller/specs/"
+LIBRARY = "crates/agc2/specs/"
 RECOMMENDED = "reply = volume (pos (processChannels probability level (c .control) .volume));"
 
 # What is wrong, the claim that is false of it, and for each file the text that is replaced and what replaces it. More claims may fall, since a proof may use more than its claim says:
@@ -109,6 +110,32 @@ EDITS = [
     ("a level one more", "LevelsWithinOne", [
         (LEVELS + "Level.antt", "toDecimal l = (l * 643 + (8192 * 2136 - 1)) / (8192 * 2136)",
          "toDecimal l = let d = (l * 643 + (8192 * 2136 - 1)) / (8192 * 2136) in d + (d + (2 ^ 20 - 1)) / 2 ^ 20")]),
+    # ---- document 02 (xiii)
+    ("each channel's call skips channel 1", "EqualChannels", [
+        (IVC + "Channels.antt", "use mathlib.Core.List.{List, [], _∷_, map}", "use mathlib.Core.List.{List, [], _∷_, _++_, map}"),
+        (IVC + "Channels.antt", "use lib.ListN.{length, getD}", "use lib.ListN.{length, getD, take, drop}"),
+        (IVC + "Channels.antt", "eachCalled call channels = map (called call) channels",
+         "eachCalled call channels = take 1 (map (called call) channels) ++ (take 1 (drop 1 channels) ++ drop 2 (map (called call) channels))")]),
+    ("the estimate is asked with the controller's volume before the frame", "DependsOnOne", [
+        (IVC + "Frame.antt", "analyzeInputAudio = frameBy predictedBy",
+         "analyzeInputAudio volume samples lent c = frameBy (λ (a : Asked). predictedBy (record { level = c .control .volume; step = a .step; least = a .least; most = a .most })) volume samples lent c")]),
+    ("the controller's volume is not taken with a frame's volume, so that the estimate reads the old one", "DependsOnOne", [
+        (IVC + "ControlCalls.antt", "withAppliedInputVolume volume c = aggregated (withApplied (Volume volume) (eachChannel (StreamAnalogLevel volume) c))",
+         "withAppliedInputVolume volume c = withApplied (Volume volume) (eachChannel (StreamAnalogLevel volume) c)")]),
+    ("a recommendation with capture off repeats the controller's volume", "DependsOnOne", [
+        (IVC + "Recommendation.antt", "recommendIf false applied probability level c = record { reply = volume (pos applied);",
+         "recommendIf false applied probability level c = record { reply = volume (pos (c .control .volume));")]),
+    ("the capture switch is not told to the channels", "SaidByOthers", [
+        (IVC + "ControlCalls.antt", "switchCapture on c = withUsed on (eachChannel (CaptureOutputUsed on) c)", "switchCapture on c = withUsed on c")]),
+    # then all rings are empty, and nothing depends on them
+    ("no record enters a ring", "DependsOnEach", [
+        (PREDICTOR + "Predictor.antt", "pushEach capacity (l ∷ levels) (r ∷ rings) = push capacity l r ∷ pushEach capacity levels rings", "pushEach capacity (l ∷ levels) (r ∷ rings) = r ∷ rings")]),
+    ("beside a refused making stands a controller that channel 1 controls", "AsOneInCode", [
+        (IVC + "Controller.antt", "use Rattle.input_volume_controller.specs.Control.{Control, controlOf}", "use Rattle.input_volume_controller.specs.Control.{Control, controlOf, withVolume}"),
+        (IVC + "Controller.antt", "unmade cause = record { answer = Refused cause; controller = fresh (settingsFrom defaults) 1 }",
+         "unmade cause = let c = fresh (settingsFrom defaults) 1 in record { answer = Refused cause; controller = record { control = withVolume 0 1 (c .control); predictor = c .predictor } }")]),
+    ("the library answers a recommendation with the controller's volume before it", "AsOneInLibrary", [
+        (LIBRARY + "Calls.antt", "  pub volume : r .volume ≡ volumeNumbers says .volume", "  pub volume : r .volume ≡ pos (self .volume)")]),
     # ---- others
     # then the count never leaves the wait, and with the default wait two frames fewer do
     ("the wait is kept when the rings are emptied", "TwoFewerAreTooFew", [
