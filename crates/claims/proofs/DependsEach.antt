@@ -1,23 +1,20 @@
--- For each part that the replies depend on two controllers that agree in all others and do not reply alike, computed: all of one channel, with the default settings or near them. Assumes nothing.
+-- For each part that the replies depend on two controllers that agree in all others and do not reply alike, computed: all of one channel, with the default settings or another clipping wait. Assumes nothing.
 use mathlib.Core.Path.{_≡_, refl, sym, ap, _∙_}
 use mathlib.Core.Bool.{false}
 use mathlib.Core.List.{List, [], _∷_}
 use Prim.Native.Nat.{ℕ}
 use native.Mathlib.Omega.{arith}
-use lib.IntN.{ℤ, pos, negsuc, natAbs}
-use lib.Ieee.{add, sub, mul, div, lt, le, ofInt, ofBits, binary32}
+use lib.IntN.{natAbs}
+use lib.Ieee.{add, mul, div, lt, le, ofInt, ofBits}
 use Rattle.numbers.specs.declared.natural.Natural.the-variants.{Number}
-use Rattle.numbers.specs.First.{searched, first}
-use Rattle.numbers.specs.Sign.{signed}
 use Rattle.numbers.specs.Listed.{listed}
 use Rattle.numbers.specs.Natural.{withinOf}
 use Rattle.levels.specs.Decibels.{minus, less, atMost}
 use Rattle.levels.specs.FloatParts.{magnitudeOf}
-use Rattle.levels.specs.Rounding.{halfUp, roundOf}
 use Rattle.levels.specs.Level as Decibel
 use Rattle.levels.specs.Level.{dbfs}
-use Rattle.gain_map.specs.GainMap.{gain, gainMap}
-use Rattle.gain_map.specs.VolumeUpdate.{rise, fall, walk}
+use Rattle.gain_map.specs.GainMap.{gain}
+use Rattle.gain_map.specs.VolumeUpdate.{walk}
 use Rattle.clipping_predictor_level_buffer.specs.Level.{frameRecord}
 use Rattle.clipping_predictor_level_buffer.specs.Metrics.{metricsOver, partialMetrics}
 use Rattle.clipping_predictor_level_buffer.specs.Statistics.{plusZero, sum, mean, largest}
@@ -26,8 +23,8 @@ use Rattle.clipping_predictor.specs.Estimate.{dropBy, adaptiveDrop, estimateTre
 use Rattle.clipping_predictor.specs.Predictor.{pushEach, frameFits}
 use Rattle.mono_input_volume_controller.specs.declared.config.Config.{Config}
 use Rattle.mono_input_volume_controller.specs.declared.config.Checked.the-variants.{InOrder}
-use Rattle.mono_input_volume_controller.specs.declared.speech_level.SpeechLevel.the-variants.{Absent, Dbfs}
-use Rattle.mono_input_volume_controller.specs.SpeechLevel.{held, errorOf, rmsErrorOf}
+use Rattle.mono_input_volume_controller.specs.declared.speech_level.SpeechLevel.the-variants.{Absent}
+use Rattle.mono_input_volume_controller.specs.SpeechLevel.{rmsErrorOf}
 use Rattle.mono_input_volume_controller.specs.Mono.{isUsers}
 use Rattle.mono_input_volume_controller.specs.Config.{defaults, settingsFrom, settingsOf}
 use Rattle.input_volume_controller.specs.ClippedRatio.{countOf, clippedIn, mostClipped, clippedRatio}
@@ -39,36 +36,21 @@ use Rattle.input_volume_controller.specs.Reply as Reply
 use Rattle.input_volume_controller.specs.Frame.{analyzeInputAudio}
 use Rattle.input_volume_controller.specs.Recommendation.{recommendInputVolume}
 use Rattle.input_volume_controller.specs.Calls.{Call, recommendation, initialise, captureSwitch, after, answers}
-use Rattle.claims.specs.Depends.{History, standing, Part, settings, oneChannel, rings, sinceClipping, pendingVolume, AgreeIn, AgreeInAll, repliesIn, ReplyAlike}
+use Rattle.claims.specs.Depends.{History, standing, Part, settings, oneChannel, rings, sinceClipping, pendingVolume, AgreeIn, repliesIn}
 use Rattle.claims.specs.DependsEach.{Taken, Two, Needed, VolumeIsOpen, DependsOnEach}
+use Rattle.claims.specs.Sharp.{waiting}
 use Rattle.claims.proofs.OneSample.{still, loud, clipped}
 
 -- ---- controllers of one channel
 
 -- made with a configuration
-abbrev since : Config → List Call → History
-since config calls = record { predictor = predictorSettings (settingsFrom config .predicts); settings = settingsFrom config; channels = 1; calls = calls }
-
--- the default settings, but with this lower target, and so that the speech error may act at every recommendation
-abbrev aiming : ℤ → Config
-aiming target = record {
-  «min_input_volume» = defaults .«min_input_volume»;
-  «clipped_level_min» = defaults .«clipped_level_min»;
-  «clipped_level_step» = defaults .«clipped_level_step»;
-  «clipped_ratio_threshold» = defaults .«clipped_ratio_threshold»;
-  «clipped_wait_frames» = defaults .«clipped_wait_frames»;
-  «enable_clipping_predictor» = defaults .«enable_clipping_predictor»;
-  «target_range_max_dbfs» = defaults .«target_range_max_dbfs»;
-  «target_range_min_dbfs» = target;
-  «update_input_volume_wait_frames» = pos 1;
-  «speech_probability_threshold» = defaults .«speech_probability_threshold»;
-  «speech_ratio_threshold» = defaults .«speech_ratio_threshold»;
-}
+abbrev madeWith : Config → List Call → History
+madeWith config calls = record { predictor = predictorSettings (settingsFrom config .predicts); settings = settingsFrom config; channels = 1; calls = calls }
 
 abbrev InRange : Config → Type 0
 InRange config = settingsOf config ≡ InOrder (settingsFrom config)
 
-taken : (config : Config) (calls : List Call) → InRange config → Taken (since config calls)
+taken : (config : Config) (calls : List Call) → InRange config → Taken (madeWith config calls)
 unfolding makingOf madeOf withinOf
 taken config calls e = record { config = config; made = ap (madeOf (Number 1)) e }
 
@@ -120,38 +102,35 @@ Never same = ⊥
 record Example (part : Part) : Type 0 where
   one : Config
   other : Config
-  past : List Call
-  before : List Call
+  one-past : List Call
+  other-past : List Call
   calls : List Call
   one-taken : InRange one
   other-taken : InRange other
-  agree : Facts (Just part) (since one past) (since other before)
+  agree : Facts (Just part) (madeWith one one-past) (madeWith other other-past)
   volume : ℕ
   another : ℕ
-  one-shows : shown (since one past) calls ≡ volume
-  other-shows : shown (since other before) calls ≡ another
+  one-shows : shown (madeWith one one-past) calls ≡ volume
+  other-shows : shown (madeWith other other-past) calls ≡ another
   apart : volume ≡ another → ⊥
 
--- a recommendation without speech, and one with speech of -60 dBFS
+-- a recommendation without speech
 abbrev silent : Call
 silent = recommendation plusZero Absent
 
-abbrev spoken : Call
-spoken = recommendation (ofInt binary32 (pos 1)) (Dbfs (ofInt binary32 (negsuc 59)))
-
 example : (part : Part) → Example part
-unfolding saidBy lastIn shown listed withinOf minus less atMost magnitudeOf Decibel.levelOf dbfs first searched gain gainMap rise fall walk frameRecord metricsOver partialMetrics sum mean largest dropBy adaptiveDrop estimateTree pushEach frameFits reached after answers called aggregateOf countOf clippedIn mostClipped clippedRatio rmsErrorOf held errorOf roundOf signed halfUp isUsers defaults settingsFrom settingsOf withAppliedInputVolume initialize lowerChannels analyzeInputAudio recommendInputVolume ofInt ofBits add sub mul div lt le
--- 10 dB below the lower target, or above it
+unfolding saidBy lastIn shown listed withinOf minus less atMost magnitudeOf Decibel.levelOf dbfs gain walk frameRecord metricsOver partialMetrics sum mean largest dropBy adaptiveDrop estimateTree pushEach frameFits reached after answers called aggregateOf countOf clippedIn mostClipped clippedRatio rmsErrorOf isUsers defaults settingsFrom settingsOf withAppliedInputVolume initialize lowerChannels analyzeInputAudio recommendInputVolume ofInt ofBits add mul div lt le
+-- a clipped frame has started the wait, which is of one frame or of 300
 example settings = record {
-  one = aiming (negsuc 49);
-  other = aiming (negsuc 69);
-  past = [];
-  before = [];
-  calls = still 100 ∷ spoken ∷ still 100 ∷ spoken ∷ [];
+  one = waiting 1;
+  other = waiting 300;
+  one-past = clipped 100 ∷ initialise ∷ [];
+  other-past = clipped 100 ∷ initialise ∷ [];
+  calls = still 100 ∷ silent ∷ clipped 100 ∷ silent ∷ [];
   one-taken = refl;
   other-taken = refl;
   agree = record { in-settings = λ h. absurd (h refl); in-one-channel = λ h. refl; in-rings = λ h. refl; in-since-clipping = λ h. refl; in-pending-volume = λ h. refl };
-  volume = 134;
+  volume = 85;
   another = 100;
   one-shows = refl;
   other-shows = refl;
@@ -161,8 +140,8 @@ example settings = record {
 example oneChannel = record {
   one = defaults;
   other = defaults;
-  past = still 100 ∷ silent ∷ still 100 ∷ [];
-  before = still 100 ∷ still 100 ∷ [];
+  one-past = still 100 ∷ silent ∷ still 100 ∷ [];
+  other-past = still 100 ∷ still 100 ∷ [];
   calls = still 0 ∷ silent ∷ [];
   one-taken = refl;
   other-taken = refl;
@@ -177,8 +156,8 @@ example oneChannel = record {
 example rings = record {
   one = defaults;
   other = defaults;
-  past = still 200 ∷ silent ∷ still 50 ∷ still 50 ∷ still 50 ∷ loud 50 ∷ loud 50 ∷ [];
-  before = still 200 ∷ silent ∷ still 50 ∷ still 50 ∷ still 50 ∷ still 50 ∷ still 50 ∷ [];
+  one-past = still 200 ∷ silent ∷ still 50 ∷ still 50 ∷ still 50 ∷ loud 50 ∷ loud 50 ∷ [];
+  other-past = still 200 ∷ silent ∷ still 50 ∷ still 50 ∷ still 50 ∷ still 50 ∷ still 50 ∷ [];
   calls = still 50 ∷ still 50 ∷ still 50 ∷ still 200 ∷ silent ∷ [];
   one-taken = refl;
   other-taken = refl;
@@ -193,8 +172,8 @@ example rings = record {
 example sinceClipping = record {
   one = defaults;
   other = defaults;
-  past = captureSwitch false ∷ still 100 ∷ initialise ∷ [];
-  before = clipped 100 ∷ initialise ∷ [];
+  one-past = captureSwitch false ∷ still 100 ∷ initialise ∷ [];
+  other-past = clipped 100 ∷ initialise ∷ [];
   calls = still 100 ∷ silent ∷ clipped 100 ∷ silent ∷ [];
   one-taken = refl;
   other-taken = refl;
@@ -209,8 +188,8 @@ example sinceClipping = record {
 example pendingVolume = record {
   one = defaults;
   other = defaults;
-  past = captureSwitch false ∷ [];
-  before = captureSwitch false ∷ still 0 ∷ [];
+  one-past = captureSwitch false ∷ [];
+  other-past = captureSwitch false ∷ still 0 ∷ [];
   calls = silent ∷ [];
   one-taken = refl;
   other-taken = refl;
@@ -223,7 +202,7 @@ example pendingVolume = record {
 }
 
 two : {part : Part} → Example part → Two
-two x = record { one = since (x .one) (x .past); other = since (x .other) (x .before); one-taken = taken (x .one) (x .past) (x .one-taken); other-taken = taken (x .other) (x .before) (x .other-taken) }
+two x = record { one = madeWith (x .one) (x .one-past); other = madeWith (x .other) (x .other-past); one-taken = taken (x .one) (x .one-past) (x .one-taken); other-taken = taken (x .other) (x .other-past) (x .other-taken) }
 
 needed : (part : Part) → Needed part
 unfolding two shown
@@ -239,10 +218,10 @@ needed part =
 
 -- an initialise takes the volume with the applied one still pending, so raised to the minimum; a second one takes it with none pending
 abbrev raised : History
-raised = since defaults (still 10 ∷ initialise ∷ [])
+raised = madeWith defaults (still 10 ∷ initialise ∷ [])
 
 abbrev unraised : History
-unraised = since defaults (still 10 ∷ initialise ∷ initialise ∷ [])
+unraised = madeWith defaults (still 10 ∷ initialise ∷ initialise ∷ [])
 
 record Open : Type 0 where
   agree : Facts Never raised unraised
