@@ -27,8 +27,7 @@ use Rattle.claims.specs.Depends.{History, standing, AgreeInAll, repliesI
 use Rattle.claims.specs.AsOneInCode.{channelsIn, HasPast, AsOneInCode, HasLibraryPast, numbersIn, AsOneInLibrary}
 use Rattle.claims.proofs.Run.{runs-are-runs}
 use Rattle.claims.proofs.Library.{runs-as, made-created}
-use Rattle.claims.proofs.Equal.{equal-channels}
-use Rattle.claims.proofs.Depends.{depends-on-one}
+use Rattle.claims.proofs.Depends.{left, depends-on-one}
 
 -- ---- the code
 
@@ -62,19 +61,16 @@ stands c h =
     }
 
 -- with its count of channels
-one-of : (h : History) → AsOne (h .channels) (standing h .control)
-one-of h = equal-channels (h .predictor) (h .settings) (h .channels) (h .calls)
-
 count-of : (c : InputVolumeController) (s : Stands c) → s .history .channels ≡ channelsIn c
 unfolding viewOf controlOf channelsOf
 count-of c s =
-    let o = one-of (s .history) in
+    let o = left (s .history) .one in
     sym (ap length (o .equal) ∙ length-replicate (s .history .channels) (o .state)) ∙ sym (ap (λ (v : Controller). length (v .control .channels)) (s .is)) ∙ length-listed _ (channelsIn c)
 
 code-equal : (c : InputVolumeController) → HasPast c → AsOne (channelsIn c) (viewOf c .control)
 code-equal c h =
     let s = stands c h in
-    subst (λ (n : ℕ). AsOne n (viewOf c .control)) (count-of c s) (subst (λ (v : Controller). AsOne (s .history .channels) (v .control)) (sym (s .is)) (one-of (s .history)))
+    subst (λ (n : ℕ). AsOne n (viewOf c .control)) (count-of c s) (subst (λ (v : Controller). AsOne (s .history .channels) (v .control)) (sym (s .is)) (left (s .history) .one))
 
 code-depends : (a b : InputVolumeController) → HasPast a → HasPast b → (channel : ℕ) → channel < channelsIn a → AgreeInAll channel (viewOf a) (viewOf b)
     → (calls : List Call) (one other : List Answer) (c d : InputVolumeController) → Run a calls one c → Run b calls other d → repliesIn one ≡ repliesIn other
