@@ -118,88 +118,105 @@ record Example (part : Part) : Type 0 where
 abbrev silent : Call
 silent = recommendation plusZero Absent
 
-example : (part : Part) → Example part
+-- one for each part, in a record: as clauses of one function they take three times as long to check
+record Examples : Type 0 where
+  by-settings : Example settings
+  by-one-channel : Example oneChannel
+  by-rings : Example rings
+  by-since-clipping : Example sinceClipping
+  by-pending-volume : Example pendingVolume
+
+examples : Examples
 unfolding saidBy lastIn shown listed withinOf minus less atMost magnitudeOf Decibel.levelOf dbfs gain walk frameRecord metricsOver partialMetrics sum mean largest dropBy adaptiveDrop estimateTree pushEach frameFits reached after answers called aggregateOf countOf clippedIn mostClipped clippedRatio rmsErrorOf isUsers defaults settingsFrom settingsOf withAppliedInputVolume initialize lowerChannels analyzeInputAudio recommendInputVolume ofInt ofBits add mul div lt le
--- a clipped frame has started the wait, which is of one frame or of 300
-example settings = record {
-  one = waiting 1;
-  other = waiting 300;
-  one-past = clipped 100 ∷ initialise ∷ [];
-  other-past = clipped 100 ∷ initialise ∷ [];
-  calls = still 100 ∷ silent ∷ clipped 100 ∷ silent ∷ [];
-  one-taken = refl;
-  other-taken = refl;
-  agree = record { in-settings = λ h. absurd (h refl); in-one-channel = λ h. refl; in-rings = λ h. refl; in-since-clipping = λ h. refl; in-pending-volume = λ h. refl };
-  volume = 85;
-  another = 100;
-  one-shows = refl;
-  other-shows = refl;
-  apart = λ e. omega (arith, e);
+examples = record {
+  -- a clipped frame has started the wait, which is of one frame or of 300
+  by-settings = record {
+    one = waiting 1;
+    other = waiting 300;
+    one-past = clipped 100 ∷ initialise ∷ [];
+    other-past = clipped 100 ∷ initialise ∷ [];
+    calls = still 100 ∷ silent ∷ clipped 100 ∷ silent ∷ [];
+    one-taken = refl;
+    other-taken = refl;
+    agree = record { in-settings = λ h. absurd (h refl); in-one-channel = λ h. refl; in-rings = λ h. refl; in-since-clipping = λ h. refl; in-pending-volume = λ h. refl };
+    volume = 85;
+    another = 100;
+    one-shows = refl;
+    other-shows = refl;
+    apart = λ e. omega (arith, e);
+  };
+  -- a recommendation has ended the startup, after which a volume of 0 is left alone
+  by-one-channel = record {
+    one = defaults;
+    other = defaults;
+    one-past = still 100 ∷ silent ∷ still 100 ∷ [];
+    other-past = still 100 ∷ still 100 ∷ [];
+    calls = still 0 ∷ silent ∷ [];
+    one-taken = refl;
+    other-taken = refl;
+    agree = record { in-settings = λ h. (refl, refl); in-one-channel = λ h. absurd (h refl); in-rings = λ h. refl; in-since-clipping = λ h. refl; in-pending-volume = λ h. refl };
+    volume = 0;
+    another = 20;
+    one-shows = refl;
+    other-shows = refl;
+    apart = λ e. omega (arith, e);
+  };
+  -- loud frames at a volume at which no estimate is made; the last one's estimate predicts clipping
+  by-rings = record {
+    one = defaults;
+    other = defaults;
+    one-past = still 200 ∷ silent ∷ still 50 ∷ still 50 ∷ still 50 ∷ loud 50 ∷ loud 50 ∷ [];
+    other-past = still 200 ∷ silent ∷ still 50 ∷ still 50 ∷ still 50 ∷ still 50 ∷ still 50 ∷ [];
+    calls = still 50 ∷ still 50 ∷ still 50 ∷ still 200 ∷ silent ∷ [];
+    one-taken = refl;
+    other-taken = refl;
+    agree = record { in-settings = λ h. (refl, refl); in-one-channel = λ h. refl; in-rings = λ h. absurd (h refl); in-since-clipping = λ h. refl; in-pending-volume = λ h. refl };
+    volume = 185;
+    another = 200;
+    one-shows = refl;
+    other-shows = refl;
+    apart = λ e. omega (arith, e);
+  };
+  -- a clipped frame has started the wait, in which another clipped frame only counts
+  by-since-clipping = record {
+    one = defaults;
+    other = defaults;
+    one-past = captureSwitch false ∷ still 100 ∷ initialise ∷ [];
+    other-past = clipped 100 ∷ initialise ∷ [];
+    calls = still 100 ∷ silent ∷ clipped 100 ∷ silent ∷ [];
+    one-taken = refl;
+    other-taken = refl;
+    agree = record { in-settings = λ h. (refl, refl); in-one-channel = λ h. refl; in-rings = λ h. refl; in-since-clipping = λ h. absurd (h refl); in-pending-volume = λ h. refl };
+    volume = 85;
+    another = 100;
+    one-shows = refl;
+    other-shows = refl;
+    apart = λ e. omega (arith, e);
+  };
+  -- with capture off a frame leaves its volume pending and nothing else
+  by-pending-volume = record {
+    one = defaults;
+    other = defaults;
+    one-past = captureSwitch false ∷ [];
+    other-past = captureSwitch false ∷ still 0 ∷ [];
+    calls = silent ∷ [];
+    one-taken = refl;
+    other-taken = refl;
+    agree = record { in-settings = λ h. (refl, refl); in-one-channel = λ h. refl; in-rings = λ h. refl; in-since-clipping = λ h. refl; in-pending-volume = λ h. absurd (h refl) };
+    volume = 256;
+    another = 0;
+    one-shows = refl;
+    other-shows = refl;
+    apart = λ e. omega (arith, e);
+  };
 }
--- a recommendation has ended the startup, after which a volume of 0 is left alone
-example oneChannel = record {
-  one = defaults;
-  other = defaults;
-  one-past = still 100 ∷ silent ∷ still 100 ∷ [];
-  other-past = still 100 ∷ still 100 ∷ [];
-  calls = still 0 ∷ silent ∷ [];
-  one-taken = refl;
-  other-taken = refl;
-  agree = record { in-settings = λ h. (refl, refl); in-one-channel = λ h. absurd (h refl); in-rings = λ h. refl; in-since-clipping = λ h. refl; in-pending-volume = λ h. refl };
-  volume = 0;
-  another = 20;
-  one-shows = refl;
-  other-shows = refl;
-  apart = λ e. omega (arith, e);
-}
--- loud frames at a volume at which no estimate is made; the last one's estimate predicts clipping
-example rings = record {
-  one = defaults;
-  other = defaults;
-  one-past = still 200 ∷ silent ∷ still 50 ∷ still 50 ∷ still 50 ∷ loud 50 ∷ loud 50 ∷ [];
-  other-past = still 200 ∷ silent ∷ still 50 ∷ still 50 ∷ still 50 ∷ still 50 ∷ still 50 ∷ [];
-  calls = still 50 ∷ still 50 ∷ still 50 ∷ still 200 ∷ silent ∷ [];
-  one-taken = refl;
-  other-taken = refl;
-  agree = record { in-settings = λ h. (refl, refl); in-one-channel = λ h. refl; in-rings = λ h. absurd (h refl); in-since-clipping = λ h. refl; in-pending-volume = λ h. refl };
-  volume = 185;
-  another = 200;
-  one-shows = refl;
-  other-shows = refl;
-  apart = λ e. omega (arith, e);
-}
--- a clipped frame has started the wait, in which another clipped frame only counts
-example sinceClipping = record {
-  one = defaults;
-  other = defaults;
-  one-past = captureSwitch false ∷ still 100 ∷ initialise ∷ [];
-  other-past = clipped 100 ∷ initialise ∷ [];
-  calls = still 100 ∷ silent ∷ clipped 100 ∷ silent ∷ [];
-  one-taken = refl;
-  other-taken = refl;
-  agree = record { in-settings = λ h. (refl, refl); in-one-channel = λ h. refl; in-rings = λ h. refl; in-since-clipping = λ h. absurd (h refl); in-pending-volume = λ h. refl };
-  volume = 85;
-  another = 100;
-  one-shows = refl;
-  other-shows = refl;
-  apart = λ e. omega (arith, e);
-}
--- with capture off a frame leaves its volume pending and nothing else
-example pendingVolume = record {
-  one = defaults;
-  other = defaults;
-  one-past = captureSwitch false ∷ [];
-  other-past = captureSwitch false ∷ still 0 ∷ [];
-  calls = silent ∷ [];
-  one-taken = refl;
-  other-taken = refl;
-  agree = record { in-settings = λ h. (refl, refl); in-one-channel = λ h. refl; in-rings = λ h. refl; in-since-clipping = λ h. refl; in-pending-volume = λ h. absurd (h refl) };
-  volume = 256;
-  another = 0;
-  one-shows = refl;
-  other-shows = refl;
-  apart = λ e. omega (arith, e);
-}
+
+example : (part : Part) → Example part
+example settings = examples .by-settings
+example oneChannel = examples .by-one-channel
+example rings = examples .by-rings
+example sinceClipping = examples .by-since-clipping
+example pendingVolume = examples .by-pending-volume
 
 two : {part : Part} → Example part → Two
 two x = record { one = madeWith (x .one) (x .one-past); other = madeWith (x .other) (x .other-past); one-taken = taken (x .one) (x .one-past) (x .one-taken); other-taken = taken (x .other) (x .other-past) (x .other-taken) }
