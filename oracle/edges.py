@@ -1,5 +1,5 @@
 #!/usr/bin/env python3
-"""The cases at the edges that no theorem states, and what a hurried port would do wrong, as lines for crates/replay, answered by the original Rust.
+"""The cases at the edges that no theorem states, what a hurried port would do wrong, and examples of the claim `DependsOnEach`, as lines for crates/replay, answered by the original Rust.
 
 usage: edges.py ORACLE     from the repository's root; ORACLE is the driver over the unchanged Rust (`probe` of rust/)
 

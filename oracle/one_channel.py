@@ -26,12 +26,13 @@ REFUSED = ["B 256 1 00000000", "B 5 0 ", "B -1 0 "]
 
 
 def past(rnd, channels, port):
-    """A few calls; an initialise, once or twice, leaves the controller's volume raised or not."""
+    """A few calls, in whose frames all channels hear the same or not; an initialise, once or twice, leaves the controller's volume raised or not."""
     out = []
     for _ in range(rnd.randint(0, 5)):
         kind = rnd.random()
         if kind < 0.5:
-            out.append(f"A {rnd.choice(VOLUMES)} " + rnd.choice(SAMPLES) * channels)
+            heard = rnd.choices(SAMPLES, k=channels) if rnd.random() < 0.3 else [rnd.choice(SAMPLES)] * channels
+            out.append(f"A {rnd.choice(VOLUMES)} " + "".join(heard))
         elif port and kind < 0.55:
             out.append(rnd.choice(REFUSED))
         else:
@@ -51,6 +52,11 @@ def read(line):
 def answers(program, port, commands):
     """The replies and states of some commands."""
     return [read(line) for line in run(program, ["V"] * port + commands)[port:]]
+
+
+def unequal(states):
+    """In how many of them a channel differs, or another than channel 0 controls."""
+    return sum(state["e"] != "1" or state["g"] != "0" for state in states)
 
 
 def twos(pasts, ends, place):
@@ -75,11 +81,14 @@ def main():
         pasts = [["N " + " ".join(map(str, fields))] + past(rnd, channels, port) + ["D"] for _ in range(PASTS)]
         states = [state for _, state in answers(program, port, [call for calls_had in pasts for call in calls_had])]
         counts["calls"] += len(states)
-        counts["unequal"] += sum(state["e"] != "1" or state["g"] != "0" for state in states)
+        counts["unequal"] += unequal(states)
         ends = [states[end - 1] for end in itertools.accumulate(map(len, pasts))]
         for one, other, differs in twos(pasts, ends, PLACE.replace(without, "")):
             later = calls(rnd, channels, LATER)
-            replies = [[reply for reply, _ in answers(program, port, half + later)[-LATER:]] for half in (one, other)]
+            halves = [answers(program, port, half + later)[-LATER:] for half in (one, other)]
+            replies = [[reply for reply, _ in half] for half in halves]
+            counts["calls"] += 2 * LATER
+            counts["unequal"] += sum(unequal(state for _, state in half) for half in halves)
             counts["pairs"] += 1
             counts["other_volume"] += differs
             counts["compared"] += LATER

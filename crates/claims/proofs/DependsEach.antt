@@ -118,7 +118,7 @@ record Example (part : Part) : Type 0 where
 abbrev silent : Call
 silent = recommendation plusZero Absent
 
--- one for each part, in a record: as clauses of one function they take three times as long to check
+-- one for each part, in a record: as clauses of one function they take more than twice as long to check
 record Examples : Type 0 where
   by-settings : Example settings
   by-one-channel : Example oneChannel
