@@ -14,7 +14,7 @@
  * the last answers: a frame, refused or not, writes `refusal` and `near` and sets `present` and `volume` to 0; a recommendation writes `present` and `volume`.
  *
  * No argument is out of bounds but two kinds: a pointer must be valid, with as many samples behind it as the count says, none of them within the controller; and a controller
- * must be one that agc2_new accepted and that nobody else wrote to. A controller has no pointer in it and may be copied and moved; two threads must not use one at once.
+ * must be one that agc2_new or agc2_new_with_predictor accepted and that nobody else wrote to. A controller has no pointer in it and may be copied and moved; two threads must not use one at once.
  * The proofs take floats to work as they do by default: rounded to nearest, with no subnormal number flushed to zero.
  *
  * The stack that a call needs, as measured with clang and gcc at -O0 and -O2: 15 KB for a frame, 9.8 KB for agc2_new and agc2_stored_record, 1.9 KB for any other (bindings/c/stack.c); where memcpy
@@ -31,7 +31,7 @@ extern "C" {
 
 enum { AGC2_MAX_CHANNELS = 8, AGC2_MAX_SAMPLES_PER_CHANNEL = 480 };
 
-/* The refusals of these calls: agc2_new has 1 to 6, agc2_analyze_input_audio 8 and 9. */
+/* The refusals of these calls: agc2_new has 1 to 6, agc2_new_with_predictor 7, 14 and 15 besides, agc2_analyze_input_audio 8 and 9. */
 enum {
     AGC2_ACCEPTED = 0,
     AGC2_CHANNEL_COUNT = 1,
@@ -40,8 +40,11 @@ enum {
     AGC2_WAIT_FRAMES = 4,
     AGC2_TARGET_RANGE = 5,
     AGC2_SPEECH_THRESHOLD = 6,
+    AGC2_PREDICTOR_WINDOWS = 7,
     AGC2_INPUT_VOLUME = 8,
-    AGC2_FRAME_SIZE = 9
+    AGC2_FRAME_SIZE = 9,
+    AGC2_PREDICTOR_CAPACITY = 14,
+    AGC2_PREDICTOR_LEVELS = 15
 };
 
 /* The settings, any bits; agc2_default_config has the original's. The predictor is off at 0, and on at any other number. */
@@ -58,6 +61,24 @@ typedef struct agc2_config {
     float speech_probability_threshold;
     float speech_ratio_threshold;
 } agc2_config;
+
+/* How clipping is predicted, the original's ClippingPredictorMode. */
+enum {
+    AGC2_CLIPPING_EVENT_PREDICTION = 0,
+    AGC2_ADAPTIVE_STEP_CLIPPING_PEAK_PREDICTION = 1,
+    AGC2_FIXED_STEP_CLIPPING_PEAK_PREDICTION = 2
+};
+
+/* A predictor's settings, any bits; agc2_default_predictor_config has those that agc2_new takes. A mode above 2 is taken as 2. Threshold and margin are whole thousandths of a dB, where the
+ * original has floats in dB. There is no switch: that is enable_clipping_predictor of agc2_config. */
+typedef struct agc2_predictor_config {
+    uint32_t mode;
+    int32_t window_length;
+    int32_t reference_window_length;
+    int32_t reference_window_delay;
+    int32_t clipping_threshold;
+    int32_t crest_factor_margin;
+} agc2_predictor_config;
 
 /* What a channel's ring keeps of a frame: 1 with the mean square and the largest magnitude, or 0 and zeros where there is none. */
 typedef struct agc2_record {
@@ -103,12 +124,15 @@ typedef struct agc2_layout_of {
     uint32_t controller_predictor;
     uint32_t config_size;
     uint32_t record_size;
+    uint32_t predictor_config_size;
 } agc2_layout_of;
 
 agc2_config agc2_default_config(void);
+agc2_predictor_config agc2_default_predictor_config(void);
 agc2_layout_of agc2_layout(void);
 /* Beside the number of a refusal stands a working controller of one channel with the default settings. */
 agc2_controller agc2_new_by_value(int32_t num_capture_channels, agc2_config config);
+agc2_controller agc2_new_with_predictor_by_value(int32_t num_capture_channels, agc2_config config, agc2_predictor_config predictor);
 agc2_control_state agc2_initialize_by_value(agc2_control_state control);
 agc2_control_state agc2_handle_capture_output_used_change_by_value(agc2_control_state control, uint32_t capture_output_used);
 void agc2_analyze_input_audio_into(agc2_controller *controller, int32_t applied_input_volume, size_t samples_per_channel, const float *samples, size_t count);
@@ -118,9 +142,19 @@ agc2_record agc2_stored_record_by_value(agc2_controller controller, size_t chann
 
 /* ---- the calls */
 
-/* A controller of 1 to 8 channels, or a refusal, 1 to 6, which leaves *controller unwritten. */
+/* A controller of 1 to 8 channels, or a refusal, 1 to 6, which leaves *controller unwritten. Its predictor, if it is on, is the original's. */
 static inline uint32_t agc2_new(agc2_controller *controller, int32_t num_capture_channels, agc2_config config) {
     agc2_controller made = agc2_new_by_value(num_capture_channels, config);
+    if (made.refusal == AGC2_ACCEPTED) {
+        *controller = made;
+    }
+    return made.refusal;
+}
+
+/* The same with a predictor of any mode, and its own windows, threshold and margin. Of the refusals 1 to 6 come first, and then 7, 14 and 15, whether the predictor is on or off: window and
+ * reference at least 1 frame, the delay of the reference at least 0, delay + reference above the window (7) and at most 64 (14), threshold and margin from -200,000 to 200,000 (15). */
+static inline uint32_t agc2_new_with_predictor(agc2_controller *controller, int32_t num_capture_channels, agc2_config config, agc2_predictor_config predictor) {
+    agc2_controller made = agc2_new_with_predictor_by_value(num_capture_channels, config, predictor);
     if (made.refusal == AGC2_ACCEPTED) {
         *controller = made;
     }
@@ -187,10 +221,16 @@ static inline const char *agc2_words(uint32_t refusal) {
         return "a target not -90 to 30 dBFS";
     case AGC2_SPEECH_THRESHOLD:
         return "speech probability or speech ratio threshold not 0 to 1, or not a number";
+    case AGC2_PREDICTOR_WINDOWS:
+        return "predictor window or reference below 1, delay below 0, or delay + reference not above window";
     case AGC2_INPUT_VOLUME:
         return "a volume not 0 to 255";
     case AGC2_FRAME_SIZE:
         return "samples per channel not 1 to 480, or lent samples not channels \xc3\x97 that";
+    case AGC2_PREDICTOR_CAPACITY:
+        return "predictor delay + reference above 64";
+    case AGC2_PREDICTOR_LEVELS:
+        return "predictor threshold or margin not -200,000 to 200,000 thousandths of a dB";
     default:
         return "no refusal of this library";
     }

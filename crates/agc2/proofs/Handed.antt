@@ -7,7 +7,6 @@ use lib.IntN.{ℤ}
 use lib.Ieee.{Float}
 use Rattle.numbers.specs.Said.{outcomeSays}
 use Rattle.numbers.specs.declared.refusal.Refusal.{Refusal}
-use Rattle.mono_input_volume_controller.specs.declared.config.Config.{Config}
 use Rattle.input_volume_controller.specs.declared.Analysis.{Analysis}
 use Rattle.input_volume_controller.specs.declared.Analysis.the-variants as Analysis
 use Rattle.input_volume_controller.specs.declared.Analyzed.{Analyzed}
@@ -29,7 +28,7 @@ use Rattle.agc2.specs.declared.answers.VolumeNumbers.{VolumeNumbers}
 use Rattle.agc2.specs.declared.answers.Agc2Controller.{Agc2Controller}
 use Rattle.agc2.specs.Whole.{wholeOf, besideOf}
 use Rattle.agc2.specs.Answers.{outcomeNumber, frameNumbers, volumeNumbers}
-use Rattle.agc2.specs.Calls.{CreatedOf, AnalyzedOf, RecommendedAs}
+use Rattle.agc2.specs.Calls.{CreatedAs, AnalyzedOf, RecommendedAs}
 
 pub back : (n m : ℕ) (d : InputVolumeController) → wholeOf (besideOf n m d) ≡ d
 back n m d = λ i. together (control-again (d .control) i) (predictor-again (d .predictor) i)
@@ -54,10 +53,12 @@ does {q} {s} {c} d {call} {says} w e h =
 
 -- ---- a making
 
-pub created : {channels : ℤ} {config : Config} (m : Created) {n : ℕ} {r : Agc2Controller} → n ≡ outcomeNumber (outcomeSays (m .answer)) → r ≡ besideOf n 0 (m .controller) → Making.CreatedOf channels config m → CreatedOf channels config r
-created {channels} {config} m {n} {r} f e h =
-    subst (λ (x : Agc2Controller). CreatedOf channels config x) (sym e)
-    (record { refusal = f ∙ ap outcomeNumber (h .answer); near = refl; unanswered = record { present = refl; volume = refl }; becomes = becomes n 0 (m .controller) (h .good) (h .view) })
+pub created : {made making : Making.Making} (m : Created) {r : Agc2Controller} → made ≡ making → r ≡ besideOf (outcomeNumber (outcomeSays (m .answer))) 0 (m .controller) → Making.CreatedAs made m
+    → CreatedAs making r
+created {made} {making} m {r} same e h =
+    subst (λ (x : Making.Making). CreatedAs x r) same
+    (subst (λ (x : Agc2Controller). CreatedAs made x) (sym e)
+    (record { refusal = ap outcomeNumber (h .answer); near = refl; unanswered = record { present = refl; volume = refl }; becomes = becomes (outcomeNumber (outcomeSays (m .answer))) 0 (m .controller) (h .good) (h .view) }))
 
 -- ---- a frame
 

@@ -5,12 +5,13 @@ use Prim.Native.Nat.{ℕ}
 use lib.IntN.{ℤ, pos}
 use lib.Ieee.{Float}
 use Rattle.numbers.specs.Said.{outcomeSays}
+use Rattle.clipping_predictor.specs.declared.settings.ClippingPredictorConfig.{ClippingPredictorConfig}
 use Rattle.mono_input_volume_controller.specs.declared.config.Config.{Config}
 use Rattle.mono_input_volume_controller.specs.declared.speech_level.SpeechLevel.{SpeechLevel}
 use Rattle.input_volume_controller.specs.declared.volume_control.VolumeControl.{VolumeControl}
 use Rattle.input_volume_controller.specs.declared.InputVolumeController.{InputVolumeController}
 use Rattle.input_volume_controller.specs.Plain.{wholeControl}
-use Rattle.input_volume_controller.specs.Controller.{viewOf, Becomes, makingOf}
+use Rattle.input_volume_controller.specs.Controller.{viewOf, Becomes, Making, basePredictor, makingWith}
 use Rattle.input_volume_controller.specs.Reply.{Reply, Stepped}
 use Rattle.input_volume_controller.specs.Reply.{refusal as refused}
 use Rattle.input_volume_controller.specs.Calls.{Call, frame, recommendation, step, Typed, ControlDoes}
@@ -24,11 +25,18 @@ pub record Unanswered (c : Agc2Control) : Type 0 where
   pub present : c .present ≡ 0
   pub volume : c .volume ≡ pos 0
 
-pub record CreatedOf (channels : ℤ) (config : Config) (r : Agc2Controller) : Type 0 where
-  pub refusal : r .refusal ≡ outcomeNumber (outcomeSays (makingOf channels config .answer))
+-- a making, with any predictor and with the base's
+pub record CreatedAs (making : Making) (r : Agc2Controller) : Type 0 where
+  pub refusal : r .refusal ≡ outcomeNumber (outcomeSays (making .answer))
   pub near : r .near ≡ 0
   pub unanswered : Unanswered (r .control)
-  pub becomes : Becomes (makingOf channels config .controller) (wholeOf r)
+  pub becomes : Becomes (making .controller) (wholeOf r)
+
+abbrev pub CreatedWith : ℤ → Config → ClippingPredictorConfig → Agc2Controller → Type 0
+CreatedWith channels config predictor r = CreatedAs (makingWith channels config predictor) r
+
+abbrev pub CreatedOf : ℤ → Config → Agc2Controller → Type 0
+CreatedOf channels config r = CreatedWith channels config basePredictor r
 
 -- a frame's step; a refused one hands the very controller back
 pub record FramedAs (self : InputVolumeController) (call : Call) (s : Stepped) (r : Agc2Controller) : Type 0 where

@@ -10,4 +10,5 @@ layout = record {
   «controller_predictor» = 328;
   «config_size» = 44;
   «record_size» = 12;
+  «predictor_config_size» = 24;
 }

@@ -12,6 +12,7 @@ pub struct Agc2Layout {
     pub controller_predictor: u32,
     pub config_size: u32,
     pub record_size: u32,
+    pub predictor_config_size: u32,
 }
 
 #[no_mangle]
@@ -26,5 +27,6 @@ pub extern "C" fn agc2_layout() -> Agc2Layout
         controller_predictor: 328,
         config_size: 44,
         record_size: 12,
+        predictor_config_size: 24,
     }
 }

@@ -12,14 +12,17 @@ ghost use Rattle.input_volume_controller.specs.Control.{Good as GoodControl};
 ghost use Rattle.input_volume_controller.specs.Plain.{wholeControl};
 ghost use Rattle.input_volume_controller.specs.Reply.{done};
 ghost use Rattle.input_volume_controller.specs.Calls.{initialise, captureSwitch, ControlDoes};
-ghost use Rattle.agc2.specs.Settings.{configOf};
-ghost use Rattle.agc2.specs.Answers.{recordOf, speechLevelOf};
+ghost use Rattle.numbers.specs.Said.{outcomeSays};
+ghost use Rattle.agc2.specs.Settings.{configOf, predictorConfigOf};
+ghost use Rattle.agc2.specs.Answers.{outcomeNumber, recordOf, speechLevelOf};
 ghost use Rattle.agc2.specs.Whole.{wholeOf, besideOf};
-ghost use Rattle.agc2.specs.Calls.{CreatedOf, AnalyzedOf, RecommendedOf};
+ghost use Rattle.agc2.specs.Calls.{CreatedWith, CreatedOf, AnalyzedOf, RecommendedOf};
 use crate::answers::Agc2Control;
 use crate::answers::Agc2Controller;
 use crate::answers::Agc2Record;
 use crate::settings::Agc2Config;
+use crate::settings::Agc2PredictorConfig;
+use input_volume_controller::Created;
 use input_volume_controller::InputVolumeController;
 use input_volume_controller::plain::PlainControl;
 use input_volume_controller::plain::plain_control;
@@ -62,15 +65,37 @@ fn beside(refusal: u32, near: u32, c: InputVolumeController) -> Agc2Controller
     }
 }
 
-// Causes 1 to 6.
+// What a making hands back, in numbers.
+fn created(made: Created) -> Agc2Controller
+    ensures { λ r. ⌜ r ≡ besideOf (outcomeNumber (outcomeSays (made .answer))) 0 (made .controller) ⌝ }
+{
+    let answer = made.answer;
+    let controller = made.controller;
+    beside(answers::outcome_number(answer), 0, controller)
+}
+
+// With the base's predictor: causes 1 to 6.
 #[no_mangle]
 pub extern "C" fn agc2_new_by_value(num_capture_channels: i32, config: Agc2Config) -> Agc2Controller
     ensures { λ r. ⌜ CreatedOf «num_capture_channels» (configOf config) r ⌝ }
 {
-    let made = InputVolumeController::new(num_capture_channels, settings::config_of(config));
-    let answer = made.answer;
-    let controller = made.controller;
-    beside(answers::outcome_number(answer), 0, controller)
+    created(InputVolumeController::new(num_capture_channels, settings::config_of(config)))
+}
+
+// With any predictor: causes 1 to 6, and then, with the predictor off too, 7, 14 and 15.
+#[no_mangle]
+pub extern "C" fn agc2_new_with_predictor_by_value(
+    num_capture_channels: i32,
+    config: Agc2Config,
+    predictor: Agc2PredictorConfig,
+) -> Agc2Controller
+    ensures { λ r. ⌜ CreatedWith «num_capture_channels» (configOf config) (predictorConfigOf predictor) r ⌝ }
+{
+    created(InputVolumeController::with_predictor(
+        num_capture_channels,
+        settings::config_of(config),
+        settings::predictor_config_of(predictor),
+    ))
 }
 
 #[no_mangle]

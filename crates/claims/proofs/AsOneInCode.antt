@@ -3,19 +3,11 @@ use mathlib.Core.Path.{_≡_, refl, sym, ap, _∙_, subst}
 use mathlib.Core.List.{List, [], _∷_}
 use Prim.Native.Nat.{ℕ, _<_}
 use lib.ListN.{length, length-replicate}
-use Rattle.numbers.specs.declared.natural.Natural.{Natural}
-use Rattle.numbers.specs.declared.natural.Natural.the-variants.{Number, Outside}
-use Rattle.numbers.specs.Natural.{withinOf}
 use Rattle.numbers.proofs.Listed.{length-listed}
-use Rattle.clipping_predictor.specs.Predictor.{maxChannels}
-use Rattle.mono_input_volume_controller.specs.declared.config.Settings.{Settings}
-use Rattle.mono_input_volume_controller.specs.declared.config.Checked.{Checked}
-use Rattle.mono_input_volume_controller.specs.declared.config.Checked.the-variants as Checked
-use Rattle.mono_input_volume_controller.specs.Config.{settingsOf}
 use Rattle.input_volume_controller.specs.declared.InputVolumeController.{InputVolumeController}
 use Rattle.input_volume_controller.specs.Channels.{channelsOf}
 use Rattle.input_volume_controller.specs.Control.{controlOf}
-use Rattle.input_volume_controller.specs.Controller.{Controller, viewOf, Good, predictorSettings, fresh, madeOf, makingOf}
+use Rattle.input_volume_controller.specs.Controller.{Controller, viewOf, Good}
 use Rattle.input_volume_controller.specs.Reply.{Reply}
 use Rattle.input_volume_controller.specs.Calls.{Call, Answer, after, answers}
 use Rattle.agc2.specs.declared.answers.Agc2Controller.{Agc2Controller}
@@ -26,36 +18,24 @@ use Rattle.claims.specs.Equal.{AsOne}
 use Rattle.claims.specs.Depends.{History, standing, AgreeInAll, repliesIn}
 use Rattle.claims.specs.AsOneInCode.{channelsIn, HasPast, AsOneInCode, HasLibraryPast, numbersIn, AsOneInLibrary}
 use Rattle.claims.proofs.Run.{runs-are-runs}
+use Rattle.claims.proofs.Fresh.{making-fresh}
 use Rattle.claims.proofs.Library.{runs-as, made-created}
 use Rattle.claims.proofs.Depends.{left, depends-on-one}
 
 -- ---- the code
 
--- a fresh controller stands beside every answer of the making, a refusal too
-record IsFresh (c : Controller) : Type 0 where
-  settings : Settings
-  count : ℕ
-  is : c ≡ fresh settings count
-
-made-fresh : (v : Natural) (checked : Checked) → IsFresh (madeOf v checked .controller)
-unfolding madeOf
-made-fresh Outside checked = record { settings = _; count = 1; is = refl }
-made-fresh (Number n) (Checked.Refused cause) = record { settings = _; count = 1; is = refl }
-made-fresh (Number n) (Checked.InOrder s) = record { settings = s; count = n; is = refl }
-
--- so what has a past in the code has one in the definition
+-- what has a past in the code has one in the definition, since a fresh controller stands beside every answer of a making
 record Stands (c : InputVolumeController) : Type 0 where
   history : History
   is : viewOf c ≡ standing history
   good : Good c
 
 stands : (c : InputVolumeController) → HasPast c → Stands c
-unfolding makingOf
 stands c h =
-    let f = made-fresh (withinOf 1 maxChannels (h .channels)) (settingsOf (h .config)) in
+    let f = making-fresh (h .channels) (h .config) (h .predictor) in
     let r = runs-are-runs _ _ _ _ (h .created .good) (h .run) in
     record {
-      history = record { predictor = predictorSettings (f .settings .predicts); settings = f .settings; channels = f .count; calls = h .calls };
+      history = record { predictor = f .predictor; settings = f .settings; channels = f .count; calls = h .calls };
       is = r .view ∙ ap (λ (x : Controller). after x (h .calls)) (h .created .view ∙ f .is);
       good = r .good;
     }
@@ -94,9 +74,9 @@ as-one-in-code = record { equal = code-equal; depends = code-depends }
 -- a past of the library's calls is one of the controller that its numbers stand for
 whole-past : (c : Agc2Controller) → HasLibraryPast c → HasPast (wholeOf c)
 whole-past c h =
-    let made = made-created (h .channels) (h .config) (h .made) (h .created) in
+    let made = made-created (h .channels) (h .config) (h .predictor) (h .made) (h .created) in
     let r = runs-as (h .created .becomes .good) (h .run) in
-    record { channels = h .channels; config = h .config; made = made .made; created = made .created; calls = h .calls; heard = r .heard; run = r .run }
+    record { channels = h .channels; config = h .config; predictor = h .predictor; made = made .made; created = made .created; calls = h .calls; heard = r .heard; run = r .run }
 
 -- the numbers of the calls are those of the replies
 numbersBy : List Call → List Reply → List Numbers

@@ -17,8 +17,8 @@ use Rattle.clipping_predictor.specs.declared.settings.Checked.{Checked}
 use Rattle.clipping_predictor.specs.declared.settings.Checked.the-variants as Checked
 use Rattle.clipping_predictor.specs.Settings.{maxLevel, levelsInRange, checkedSays, checkedIf, checked, settingsOf}
 use Rattle.clipping_predictor.specs.Predictor.{maxChannels, unmadeSettings, emptyPredictor, madeOf, makingOf}
-use Rattle.claims.specs.Causes.{Cause, firstIf, firstOf, outside}
-use Rattle.claims.specs.RefusedBelow.{windowsOut, sumOut, levelsOut, predictorCauses}
+use Rattle.claims.specs.Causes.{Cause, firstIf, firstOf, outside, windowsOut, sumOut, levelsOut, predictorFaults}
+use Rattle.claims.specs.RefusedBelow.{predictorCauses}
 use Rattle.claims.proofs.Causes.{less-is, either, or-true, or-false, isOutside, within-is}
 
 -- ---- the levels
@@ -86,6 +86,15 @@ module _ (c : ClippingPredictorConfig) where
       natural-first w r d (leb 1 w) (leb 1 r) (leb 0 d)
       ∙ (λ i. firstOf (ofSettings (sym (less-is 1 w) i || (sym (less-is 1 r) i || (sym (less-is 0 d) i || sym (at-most-is (d + r) w) i))) (sym (less-is (d + r) 64) i) (not inRange)))
 
+-- a check refuses with the first fault of the configuration
+pub faults-first : (c : ClippingPredictorConfig) → refusalIn (checkedSays (settingsOf c)) ≡ firstOf (predictorFaults c)
+unfolding settingsOf
+faults-first c =
+    let w = c .«window_length» in
+    let r = c .«reference_window_length» in
+    let d = c .«reference_window_delay» in
+    windows-first c w r d ∙ (λ i. firstOf (ofSettings (windowsOut w r d) (sumOut r d) (sym (levels-is (c .«clipping_threshold») (c .«crest_factor_margin»)) i)))
+
 -- ---- the making
 
 made-first : (channels : Natural) (k : Checked) → refusalIn (outcomeSays (madeOf channels k .answer)) ≡ firstIf (isOutside channels) 1 (refusalIn (checkedSays k))
@@ -95,14 +104,8 @@ made-first (Number n) (Checked.Refused cause) = refl
 made-first (Number n) (Checked.InOrder s) = refl
 
 pub predictor-first : (channels : ℤ) (config : ClippingPredictorConfig) → refusalIn (outcomeSays (makingOf channels config .answer)) ≡ firstOf (predictorCauses channels config)
-unfolding makingOf settingsOf
-predictor-first channels c =
-    let w = c .«window_length» in
-    let r = c .«reference_window_length» in
-    let d = c .«reference_window_delay» in
-    made-first (withinOf 1 maxChannels channels) (settingsOf c)
-    ∙ (λ i. firstIf (sym (within-is 1 8 channels) i) 1 (windows-first c w r d i))
-    ∙ (λ i. firstIf (outside (pos 1) (pos 8) channels) 1 (firstOf (ofSettings (windowsOut w r d) (sumOut r d) (sym (levels-is (c .«clipping_threshold») (c .«crest_factor_margin»)) i))))
+unfolding makingOf
+predictor-first channels c = made-first (withinOf 1 maxChannels channels) (settingsOf c) ∙ (λ i. firstIf (sym (within-is 1 8 channels) i) 1 (faults-first c i))
 
 made-beside : (channels : Natural) (k : Checked) (number : ℕ) → outcomeSays (madeOf channels k .answer) ≡ refused number → madeOf channels k .predictor ≡ emptyPredictor unmadeSettings 1
 unfolding madeOf

@@ -15,6 +15,7 @@ use Rattle.numbers.specs.declared.natural.Natural.the-variants.{Number, Outside
 use Rattle.numbers.specs.declared.refusal.Outcome.the-variants.{Accepted}
 use Rattle.numbers.specs.Natural.{withinOf}
 use Rattle.clipping_predictor.specs.Predictor.{maxChannels, frameFits, enteredIf}
+use Rattle.clipping_predictor.specs.declared.settings.ClippingPredictorConfig.{ClippingPredictorConfig}
 use Rattle.mono_input_volume_controller.specs.declared.config.Config.{Config}
 use Rattle.mono_input_volume_controller.specs.declared.config.Settings.{Settings}
 use Rattle.mono_input_volume_controller.specs.declared.speech_level.SpeechLevel.{SpeechLevel}
@@ -25,7 +26,7 @@ use Rattle.mono_input_volume_controller.specs.Config.{settingsFrom}
 use Rattle.input_volume_controller.specs.ClippedRatio.{clippedRatio}
 use Rattle.input_volume_controller.specs.Control.{Control}
 use Rattle.input_volume_controller.specs.ControlCalls.{raisedFor, aggregated, withAppliedInputVolume, processChannels}
-use Rattle.input_volume_controller.specs.Controller.{Controller, makingOf}
+use Rattle.input_volume_controller.specs.Controller.{Controller, makingWith}
 use Rattle.input_volume_controller.specs.Reply.{Reply, mark, refusal, volume, none, done}
 use Rattle.input_volume_controller.specs.Frame.{unlessWaiting, ifUsed, unlessRefused, analyzeInputAudio}
 use Rattle.input_volume_controller.specs.Recommendation.{recommendIf, unlessNone, recommendInputVolume}
@@ -110,17 +111,17 @@ module _ (s : Settings) (n : ℕ) (low : s .least ≤ 255) where
 
 -- ---- the claim
 
-module _ (channels : ℤ) (config : Config) (accepted : makingOf channels config .answer ≡ Accepted) (calls : List Call) where
-  made : MadeWith (withinOf 1 maxChannels channels) config (settingsFrom config) (makingOf channels config .controller)
-  made = accepted-making channels config accepted
+module _ (channels : ℤ) (config : Config) (predictor : ClippingPredictorConfig) (accepted : makingWith channels config predictor .answer ≡ Accepted) (calls : List Call) where
+  made : MadeWith (withinOf 1 maxChannels channels) config (settingsFrom config) predictor (makingWith channels config predictor .controller)
+  made = accepted-making channels config predictor accepted
 
-  sound : Sound (settingsFrom config) (made .count) (after (makingOf channels config .controller) calls .control)
-  sound = after-keeps _ (sound-kept (settingsFrom config) (made .count) (minimum-most config _ made)) calls (makingOf channels config .controller) (made-sound config _ made)
+  sound : Sound (settingsFrom config) (made .count) (after (makingWith channels config predictor .controller) calls .control)
+  sound = after-keeps _ (sound-kept (settingsFrom config) (made .count) (minimum-most config _ made)) calls (makingWith channels config predictor .controller) (made-sound config _ made)
 
-  bounded : InBounds (config .«min_input_volume») (after (makingOf channels config .controller) calls)
-  bounded = subst (λ (z : ℤ). InBounds z (after (makingOf channels config .controller) calls)) (minimum-kept config _ made) (sound-bounds (settingsFrom config) (made .count) (minimum-most config _ made) _ sound)
+  bounded : InBounds (config .«min_input_volume») (after (makingWith channels config predictor .controller) calls)
+  bounded = subst (λ (z : ℤ). InBounds z (after (makingWith channels config predictor .controller) calls)) (minimum-kept config _ made) (sound-bounds (settingsFrom config) (made .count) (minimum-most config _ made) _ sound)
 
-  answered-volumes : (call : Call) → AnswersVolumes (after (makingOf channels config .controller) calls) call
+  answered-volumes : (call : Call) → AnswersVolumes (after (makingWith channels config predictor .controller) calls) call
   answered-volumes call = sound-answers (settingsFrom config) (made .count) (minimum-most config _ made) call _ sound
 
 pub bounds : Bounds

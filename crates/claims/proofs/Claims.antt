@@ -11,9 +11,9 @@ use Rattle.claims.proofs.Levels.{levels-within-one}
 use Rattle.claims.proofs.Marked.{marked-exactly}
 use Rattle.claims.proofs.Unmarked.{unmarked-is-exact}
 use Rattle.claims.proofs.UnmarkedRun.{unmarked-run-is-exact}
-use Rattle.claims.proofs.TwoPasts.{two-pasts, one-fewer-is-enough}
-use Rattle.claims.proofs.InCode.{free-is-unheard, two-pasts-in-code}
-use Rattle.claims.proofs.TwoMakings.{two-pasts-of-makings}
+use Rattle.claims.proofs.TwoPasts.{one-fewer-is-enough}
+use Rattle.claims.proofs.Free.{free-is-unheard}
+use Rattle.claims.proofs.TwoMakings.{two-pasts, two-pasts-by-default}
 use Rattle.claims.proofs.EveryMode.{two-pasts-in-every-mode}
 use Rattle.claims.proofs.Exists.{lead-ins-exist}
 use Rattle.claims.proofs.Accepted.{accepted-is-not-refused}
@@ -43,8 +43,7 @@ claims = record {
   unmarked = unmarked-is-exact;
   unmarked-run = unmarked-run-is-exact;
   two-pasts = two-pasts;
-  two-pasts-in-code = two-pasts-in-code;
-  two-pasts-of-makings = two-pasts-of-makings;
+  two-pasts-by-default = two-pasts-by-default;
   two-pasts-in-every-mode = two-pasts-in-every-mode;
   lead-ins-exist = lead-ins-exist;
   accepted-is-not-refused = accepted-is-not-refused;

@@ -30,7 +30,8 @@ use Rattle.mono_input_volume_controller.specs.Config.{defaults, settingsFrom, s
 use Rattle.input_volume_controller.specs.ClippedRatio.{countOf, clippedIn, mostClipped, clippedRatio}
 use Rattle.input_volume_controller.specs.Channels.{called, aggregateOf}
 use Rattle.input_volume_controller.specs.ControlCalls.{withAppliedInputVolume, initialize, lowerChannels}
-use Rattle.input_volume_controller.specs.Controller.{predictorSettings, madeOf, makingOf}
+use Rattle.input_volume_controller.specs.Controller.{predictorSettings, basePredictor}
+use Rattle.input_volume_controller.proofs.Making.{base-checked}
 use Rattle.input_volume_controller.specs.Reply.{Reply}
 use Rattle.input_volume_controller.specs.Reply as Reply
 use Rattle.input_volume_controller.specs.Frame.{analyzeInputAudio}
@@ -39,6 +40,7 @@ use Rattle.input_volume_controller.specs.Calls.{Call, recommendation, initialis
 use Rattle.claims.specs.Depends.{History, standing, Part, settings, oneChannel, rings, sinceClipping, pendingVolume, AgreeIn, repliesIn}
 use Rattle.claims.specs.DependsEach.{Taken, Two, Needed, VolumeIsOpen, DependsOnEach}
 use Rattle.claims.specs.Sharp.{waiting}
+use Rattle.claims.proofs.Made.{taken}
 use Rattle.claims.proofs.OneSample.{still, loud, clipped}
 
 -- ---- controllers of one channel
@@ -50,9 +52,8 @@ madeWith config calls = record { predictor = predictorSettings (settingsFrom con
 abbrev InRange : Config → Type 0
 InRange config = settingsOf config ≡ InOrder (settingsFrom config)
 
-taken : (config : Config) (calls : List Call) → InRange config → Taken (madeWith config calls)
-unfolding makingOf madeOf withinOf
-taken config calls e = record { config = config; made = ap (madeOf (Number 1)) e }
+by-default : (config : Config) (calls : List Call) → InRange config → Taken (madeWith config calls)
+by-default config calls e = record { config = config; predictor = basePredictor; made = taken config basePredictor (settingsFrom config) _ e (base-checked (settingsFrom config .predicts)) }
 
 -- ---- what they reply
 
@@ -219,7 +220,7 @@ example sinceClipping = examples .by-since-clipping
 example pendingVolume = examples .by-pending-volume
 
 two : {part : Part} → Example part → Two
-two x = record { one = madeWith (x .one) (x .one-past); other = madeWith (x .other) (x .other-past); one-taken = taken (x .one) (x .one-past) (x .one-taken); other-taken = taken (x .other) (x .other-past) (x .other-taken) }
+two x = record { one = madeWith (x .one) (x .one-past); other = madeWith (x .other) (x .other-past); one-taken = by-default (x .one) (x .one-past) (x .one-taken); other-taken = by-default (x .other) (x .other-past) (x .other-taken) }
 
 needed : (part : Part) → Needed part
 unfolding two shown
@@ -257,7 +258,7 @@ open-volume = record {
 
 volume-is-open : VolumeIsOpen
 volume-is-open = record {
-  two = record { one = raised; other = unraised; one-taken = taken defaults _ (open-volume .one-taken); other-taken = taken defaults _ (open-volume .one-taken) };
+  two = record { one = raised; other = unraised; one-taken = by-default defaults _ (open-volume .one-taken); other-taken = by-default defaults _ (open-volume .one-taken) };
   agree = λ same. agreed Never raised unraised (open-volume .agree) same (λ none. none);
   apart = λ e. omega (arith, e, open-volume .one-shows, open-volume .other-shows);
 }

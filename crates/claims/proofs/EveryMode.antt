@@ -31,7 +31,12 @@ module _ (p : Predictor.Settings) (s : Settings) (n : ℕ) (good : Good p) (rati
   pub one-fewer-in-every-mode : AlikeAfter (freshWith p s n) (callsOf n (quietFor p n) l)
   one-fewer-in-every-mode past other calls = ap (λ (c : Controller). answers c calls) (same-state-in-every-mode past other)
 
+-- with as many as the claim asks
+pub same-state-as-asked : (p : Predictor.Settings) (s : Settings) (n : ℕ) → Good p → RatioFromZero s → (l : LeadIn n (quietFor p n) (enoughFor p s)) (past other : List Call)
+    → after (freshWith p s n) (past ++ callsOf n (quietFor p n) l) ≡ after (freshWith p s n) (other ++ callsOf n (quietFor p n) l)
+unfolding callsOf fewer-asked
+same-state-as-asked p s n good ratio l = same-state-in-every-mode p s n good ratio (fewer-asked n (quietFor p n) (enoughFor p s) l)
+
 -- THE CLAIM, in every mode
 pub two-pasts-in-every-mode : TwoPastsInEveryMode
-unfolding callsOf fewer-asked
-two-pasts-in-every-mode p s n good ratio l = one-fewer-in-every-mode p s n good ratio (fewer-asked n (quietFor p n) (enoughFor p s) l)
+two-pasts-in-every-mode p s n good ratio l past other calls = ap (λ (c : Controller). answers c calls) (same-state-as-asked p s n good ratio l past other)

@@ -2,13 +2,14 @@
 use mathlib.Core.Path.{refl}
 use lib.Ieee.{div, le, ofInt, ofBits}
 use Rattle.numbers.specs.Listed.{listed}
-use Rattle.numbers.specs.Natural.{withinOf}
+use Rattle.numbers.specs.Natural.{withinOf, atLeastOf}
 use Rattle.frame_lines.specs.Digits.{isDigit, digit, areDigits, numberAfter}
 use Rattle.frame_lines.specs.Samples.{signed16, areSamples, samplesIn}
 use Rattle.frame_lines.specs.Line.{headIsGood, isFramed, isWellFormed, fieldsOf, meaning}
 use Rattle.frame_lines.specs.Lines.{linesOf}
 use Rattle.frame_lines.specs.Answer.{digitCharacter, decimal, volumeText, numberText}
 use Rattle.clipping_predictor_level_buffer.specs.Metrics.{partialMetrics}
+use Rattle.clipping_predictor.specs.Settings as Predictors
 use Rattle.clipping_predictor.specs.Tree.{reached, marked}
 use Rattle.clipping_predictor.specs.Estimate.{estimateTree}
 use Rattle.clipping_predictor.specs.Predictor.{pushEach, frameFits}
@@ -17,7 +18,7 @@ use Rattle.mono_input_volume_controller.specs.Mono.{isUsers}
 use Rattle.input_volume_controller.specs.ClippedRatio.{countOf, clippedIn, mostClipped, clippedRatio}
 use Rattle.input_volume_controller.specs.Channels.{called, aggregateOf}
 use Rattle.input_volume_controller.specs.ControlCalls.{withAppliedInputVolume, lowerChannels}
-use Rattle.input_volume_controller.specs.Controller.{makingOf}
+use Rattle.input_volume_controller.specs.Controller.{makingWith}
 use Rattle.input_volume_controller.specs.Frame.{analyzeInputAudio}
 use Rattle.input_volume_controller.specs.Recommendation.{recommendInputVolume}
 use Rattle.frame_answers.specs.LineStep.{volumeIn, lineStep}
@@ -26,5 +27,5 @@ use Rattle.claims.specs.ExampleLines.{bytesOf, ExampleLines}
 
 -- THE CLAIM
 pub example-lines : ExampleLines
-unfolding bytesOf linesOf isDigit digit areDigits numberAfter signed16 areSamples samplesIn headIsGood isFramed isWellFormed fieldsOf meaning digitCharacter decimal volumeText numberText textOf textOfLines startController outputOf lineStep volumeIn makingOf defaults settingsOf analyzeInputAudio recommendInputVolume withinOf listed frameFits countOf clippedIn mostClipped clippedRatio called isUsers aggregateOf withAppliedInputVolume lowerChannels pushEach partialMetrics estimateTree reached marked ofInt ofBits div le
+unfolding bytesOf linesOf isDigit digit areDigits numberAfter signed16 areSamples samplesIn headIsGood isFramed isWellFormed fieldsOf meaning digitCharacter decimal volumeText numberText textOf textOfLines startController outputOf lineStep volumeIn makingWith Predictors.settingsOf Predictors.checked Predictors.levelsInRange atLeastOf defaults settingsOf analyzeInputAudio recommendInputVolume withinOf listed frameFits countOf clippedIn mostClipped clippedRatio called isUsers aggregateOf withAppliedInputVolume lowerChannels pushEach partialMetrics estimateTree reached marked ofInt ofBits div le
 example-lines = refl

@@ -1,9 +1,9 @@
 pub mod Every
 pub mod Run
 pub mod Causes
+pub mod BelowMaking
 pub mod Making
 pub mod Refused
-pub mod BelowMaking
 pub mod BelowEstimates
 pub mod Below
 pub mod Walk
@@ -12,6 +12,7 @@ pub mod Capture
 pub mod None
 pub mod Equal
 pub mod Sound
+pub mod Fresh
 pub mod Made
 pub mod Bounds
 pub mod Stored
@@ -45,7 +46,7 @@ pub mod TwoPasts
 pub mod Exists
 pub mod OneSample
 pub mod TooFew
-pub mod InCode
+pub mod Free
 pub mod TwoMakings
 pub mod Sane
 pub mod Inverse

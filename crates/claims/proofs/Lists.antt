@@ -7,6 +7,7 @@ use native.Mathlib.Omega.{arith}
 use lib.Dec.{T}
 use lib.ListN.{take, drop, replicate}
 use lib.Seq.{take-take, take-nil}
+use Rattle.numbers.specs.Listed.{listed}
 use Rattle.claims.specs.LeadIn.{all}
 
 -- ---- tests
@@ -54,6 +55,11 @@ unfolding all
 all-drop f zero xs t = t
 all-drop f (suc k) [] t = tt
 all-drop f (suc k) (x ∷ xs) t = all-drop f k xs (and-r (f x) (all f xs) t)
+
+pub all-listed : {A : Type 0} (f : A → Bool) (g : ℕ → A) (n : ℕ) → ((i : ℕ) → T (f (g i))) → T (all f (listed g n))
+unfolding all listed
+all-listed f g zero h = tt
+all-listed f g (suc n) h = and-both (f (g 0)) (all f (listed (λ i. g (suc i)) n)) (h 0) (all-listed f (λ i. g (suc i)) n (λ i. h (suc i)))
 
 pub all-left : {A : Type 0} (f : A → Bool) (xs ys : List A) → T (all f (xs ++ ys)) → T (all f xs)
 unfolding all

@@ -26,7 +26,7 @@ use Rattle.input_volume_controller.specs.Calls.{Call, frame, recommendation, in
 use Rattle.claims.specs.Causes.{firstOf, callCauses}
 use Rattle.claims.specs.Refused.{refusedBy, RefusedCalls}
 use Rattle.claims.proofs.Causes.{isOutside, eightNine, frame-causes}
-use Rattle.claims.proofs.Making.{making-first, making-beside}
+use Rattle.claims.proofs.Making.{making-first, making-first-by-default, making-beside}
 
 -- a reply that refuses with nothing is no refusal
 never : (r : Reply) (number : ℕ) → refusedBy r ≡ none → r ≡ refusal number → ⊥
@@ -84,4 +84,4 @@ same-state c initialise number e = absurd (never done number refl e)
 same-state c (captureSwitch on) number e = absurd (never done number refl e)
 
 pub refused-calls : RefusedCalls
-refused-calls = record { unchanged = same-state; first = first-holds; making = making-first; unmade = making-beside }
+refused-calls = record { unchanged = same-state; first = first-holds; making = making-first; making-by-default = making-first-by-default; unmade = making-beside }

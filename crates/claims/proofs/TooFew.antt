@@ -1,26 +1,38 @@
--- Two accepted frames fewer do not do: a counterexample with no clipping wait, and one with the default wait. Assumes nothing.
-use mathlib.Core.Path.{_≡_, refl, ap}
+-- Two accepted frames fewer do not do: counterexamples with no clipping wait and with one, with the base's predictor and with a small one of every mode. Assumes nothing.
+use mathlib.Core.Path.{_≡_, refl, sym, ap, subst, _∙_}
+use mathlib.Core.Bool.{Bool, true, not}
 use mathlib.Core.List.{List, [], _∷_, _++_}
 use Prim.Native.Nat.{ℕ, _-_, _≤_}
 use native.Mathlib.Omega.{arith}
 use lib.Dec.{T, lit≤}
-use lib.Ieee.{add, mul, div, lt, le, eq, ofInt, ofBits}
+use lib.IntN.{pos, negsuc}
+use lib.Ieee.{Float, add, mul, div, lt, le, eq, ofInt, ofBits}
+use lib.Signed.{leZ}
 use lib.ListN.{length, replicate}
+use Rattle.numbers.specs.declared.refusal.Outcome.the-variants.{Accepted}
+use Rattle.numbers.specs.First.{first, searched}
 use Rattle.numbers.specs.Listed.{listed}
-use Rattle.numbers.specs.Natural.{withinOf}
+use Rattle.numbers.specs.Natural.{withinOf, atLeastOf}
 use Rattle.levels.specs.Decibels.{minus, less, atMost}
 use Rattle.levels.specs.FloatParts.{magnitudeOf}
 use Rattle.levels.specs.Level as Decibel
 use Rattle.levels.specs.Level.{dbfs}
-use Rattle.gain_map.specs.GainMap.{gain}
+use Rattle.gain_map.specs.GainMap.{gain, gainMap}
 use Rattle.gain_map.specs.VolumeUpdate.{walk}
 use Rattle.clipping_predictor_level_buffer.specs.declared.level.Level.{Level}
 use Rattle.clipping_predictor_level_buffer.specs.Level.{frameRecord}
 use Rattle.clipping_predictor_level_buffer.specs.Metrics.{metricsOver, partialMetrics}
 use Rattle.clipping_predictor_level_buffer.specs.Statistics.{plusZero, sum, mean, largest}
+use Rattle.clipping_predictor.specs.declared.settings.ClippingPredictorMode.{ClippingPredictorMode}
+use Rattle.clipping_predictor.specs.declared.settings.ClippingPredictorMode.the-variants.{ClippingEventPrediction, AdaptiveStepClippingPeakPrediction, FixedStepClippingPeakPrediction}
+use Rattle.clipping_predictor.specs.declared.settings.ClippingPredictorConfig.{ClippingPredictorConfig}
+use Rattle.clipping_predictor.specs.declared.settings.Settings as Predictor
+use Rattle.clipping_predictor.specs.declared.settings.Checked.the-variants as PredictorChecked
+use Rattle.clipping_predictor.specs.Settings as Predictors
 use Rattle.clipping_predictor.specs.Tree.{reached}
 use Rattle.clipping_predictor.specs.Estimate.{dropBy, adaptiveDrop, estimateTree}
 use Rattle.clipping_predictor.specs.Predictor.{pushEach, frameFits}
+use Rattle.mono_input_volume_controller.specs.declared.config.Config.{Config}
 use Rattle.mono_input_volume_controller.specs.declared.config.Settings.{Settings}
 use Rattle.mono_input_volume_controller.specs.declared.config.Checked.the-variants.{InOrder}
 use Rattle.mono_input_volume_controller.specs.declared.speech_level.SpeechLevel.the-variants.{Absent}
@@ -28,54 +40,49 @@ use Rattle.input_volume_controller.specs.ClippedRatio.{countOf, clippedIn, most
 use Rattle.mono_input_volume_controller.specs.Config.{defaults, settingsFrom, settingsOf}
 use Rattle.input_volume_controller.specs.Channels.{called, aggregateOf}
 use Rattle.input_volume_controller.specs.ControlCalls.{withAppliedInputVolume, initialize, lowerChannels}
-use Rattle.input_volume_controller.specs.Controller.{fresh}
+use Rattle.input_volume_controller.specs.Controller.{Controller, basePredictor, switched, freshWith, fresh, Making, makingWith}
 use Rattle.input_volume_controller.specs.Frame.{analyzeInputAudio}
 use Rattle.input_volume_controller.specs.Recommendation.{recommendInputVolume}
 use Rattle.input_volume_controller.specs.Calls.{Call, initialise, Answer, after, answers}
+use Rattle.input_volume_controller.proofs.Making.{base-checked}
 use Rattle.claims.specs.Past.{isAccepted}
-use Rattle.claims.specs.LeadIn.{all, acceptedBy, acceptedIn, isQuiet, quiet, isCalm, LeadIn, callsOf}
-use Rattle.claims.specs.TwoPasts.{enough, RatioFromZero}
-use Rattle.claims.specs.Sharp.{waiting, TwoFewerAreTooFew}
+use Rattle.claims.specs.LeadIn.{all, acceptedBy, acceptedIn, isQuiet, quiet, comparedIn, quietFor, isCalm, LeadIn, callsOf}
+use Rattle.claims.specs.TwoPasts.{AlikeAfter, enough, enoughFor}
+use Rattle.claims.specs.Made.{ThresholdFromZero, quietIn, enoughIn}
+use Rattle.claims.specs.Sharp.{silent, waiting, TooFewWith, TooFewByDefault, small, TooFewInMode, TwoFewerAreTooFew}
+use Rattle.claims.proofs.Lists.{and-both}
+use Rattle.claims.proofs.Made.{taken}
+use Rattle.claims.proofs.Exists.{all-replicate, or-right, silence-low}
 use Rattle.claims.proofs.OneSample.{still, loud, clipped}
 
--- a past of six frames, the last two loud, at a volume at which no estimate is made
-abbrev past : List Call
-past = still 50 ∷ still 50 ∷ still 50 ∷ still 50 ∷ loud 50 ∷ loud 50 ∷ []
+-- ---- lead-ins of silence
 
--- Quiet frames. The fourth is at a volume at which an estimate is made: with that past it predicts clipping, and the rings are emptied as late as can be.
-abbrev body : ℕ → List Call
-body k = still 50 ∷ still 50 ∷ still 50 ∷ still 200 ∷ replicate k (still 50)
+module _ (isStill : ℕ → List Float → Bool) (passes : T (isStill 1 (plusZero ∷ []))) where
+  still-calm : (volume : ℕ) → T (isCalm 1 isStill (still volume))
+  unfolding isCalm
+  still-calm volume = or-right (not (isAccepted 1 (pos volume) 1 (plusZero ∷ []))) (isStill 1 (plusZero ∷ [])) passes
 
-lead : (k least : ℕ) → T (all (isCalm 1 quiet) (body k)) → least ≤ acceptedIn 1 (body k) → LeadIn 1 quiet least
-unfolding withinOf frameFits all isAccepted isQuiet quiet ofInt le eq
-lead k least calm long = record {
-  body = body k;
-  afterInitialise = [];
-  afterFrame = [];
-  afterRecommendation = [];
-  volume = 100;
-  samples = 1;
-  lent = plusZero ∷ [];
-  probability = plusZero;
-  level = Absent;
-  calm = calm;
-  long = long;
-  accepted = tt;
-  still = tt;
-  positive = lit≤ tt;
-  refused = tt;
-}
+  lead : (body : List Call) (least : ℕ) → T (all (isCalm 1 isStill) body) → least ≤ acceptedIn 1 body → LeadIn 1 isStill least
+  unfolding withinOf frameFits all isAccepted
+  lead body least calm long = record {
+    body = body;
+    afterInitialise = [];
+    afterFrame = [];
+    afterRecommendation = [];
+    volume = 100;
+    samples = 1;
+    lent = plusZero ∷ [];
+    probability = plusZero;
+    level = Absent;
+    calm = calm;
+    long = long;
+    accepted = tt;
+    still = passes;
+    positive = lit≤ tt;
+    refused = tt;
+  }
 
-abbrev settings : ℕ → Settings
-settings wait = settingsFrom (waiting wait)
-
-twelve : LeadIn 1 quiet (enough (settings 0) - 2)
-unfolding settingsFrom withinOf frameFits all isAccepted acceptedBy acceptedIn isQuiet quiet isCalm ofInt le eq
-twelve = lead 8 12 tt (lit≤ tt)
-
-three-hundred-two : LeadIn 1 quiet (enough (settings 300) - 2)
-unfolding settingsFrom withinOf frameFits all isAccepted acceptedBy acceptedIn isQuiet quiet isCalm ofInt le eq
-three-hundred-two = lead 298 302 tt (lit≤ tt)
+-- ---- what tells two pasts apart
 
 -- how many records the ring shows after one call more
 lengthOf : List (List Level) → ℕ
@@ -86,51 +93,165 @@ shown : List Answer → ℕ
 shown [] = 0
 shown (a ∷ rest) = lengthOf (a .stored)
 
--- an initialise shows that with that past a record is still missing
-initialised : List Call → List Answer
-initialised before = answers (after (fresh (settings 0) 1) (before ++ callsOf 1 quiet twelve)) (initialise ∷ [])
+shownBy : Controller → List Call → Call → ℕ
+shownBy new calls last = shown (answers (after new calls) (last ∷ []))
 
--- a clipped frame shows that with that past the wait is not over: without it the frame empties the ring
-clippedAfter : List Call → List Answer
-clippedAfter before = answers (after (fresh (settings 300) 1) (before ++ callsOf 1 quiet three-hundred-two)) (clipped 100 ∷ [])
+-- with a past it is another number than without one
+record Apart (new : Controller) (past leadIn : List Call) (last : Call) (one other : ℕ) : Type 0 where
+  with-past : shownBy new (past ++ leadIn) last ≡ one
+  without : shownBy new leadIn last ≡ other
 
--- what the two show with that past and without
-record Shown : Type 0 where
-  nine : shown (initialised past) ≡ 9
-  ten : shown (initialised []) ≡ 10
-  full : shown (clippedAfter past) ≡ 10
-  empty : shown (clippedAfter []) ≡ 0
+too-few : (config : Config) (predictor : ClippingPredictorConfig) (new : Controller) (isStill : ℕ → List Float → Bool) (least : ℕ) (l : LeadIn 1 isStill (least - 2)) (past : List Call) (last : Call) (one other : ℕ)
+    → makingWith (pos 1) config predictor ≡ record { answer = Accepted; controller = new } → ThresholdFromZero config → Apart new past (callsOf 1 isStill l) last one other → (one ≡ other → ⊥)
+    → TooFewWith config predictor isStill least
+unfolding shownBy
+too-few config predictor new isStill least l past last one other made ratio apart differ = record {
+  made = record { accepted = ap (λ (m : Making). m .answer) made; ratio = ratio };
+  refuted = λ alike.
+      let new-alike : AlikeAfter new (callsOf 1 isStill l) = subst (λ (m : Making). AlikeAfter (m .controller) (callsOf 1 isStill l)) made (alike l) in
+      differ (sym (apart .with-past) ∙ ap shown (new-alike past [] (last ∷ [])) ∙ apart .without);
+}
 
-computed : Shown
-unfolding shown lengthOf initialised clippedAfter twelve three-hundred-two lead listed withinOf minus less atMost magnitudeOf Decibel.levelOf dbfs gain walk frameRecord metricsOver partialMetrics sum mean largest dropBy adaptiveDrop estimateTree pushEach frameFits reached after answers called aggregateOf countOf clippedIn mostClipped clippedRatio defaults settingsFrom withAppliedInputVolume initialize lowerChannels analyzeInputAudio recommendInputVolume ofInt ofBits add mul div lt le callsOf
-computed = record { nine = refl; ten = refl; full = refl; empty = refl }
+-- ---- the settings
 
-none-in-order : settingsOf (waiting 0) ≡ InOrder (settings 0)
+abbrev settings : ℕ → Settings
+settings wait = settingsFrom (waiting wait)
+
+-- which the making takes
+record Takes (wait : ℕ) : Type 0 where
+  in-order : settingsOf (waiting wait) ≡ InOrder (settings wait)
+  ratio : ThresholdFromZero (waiting wait)
+
+takes-none : Takes 0
 unfolding defaults settingsOf ofInt ofBits le
-none-in-order = refl
+takes-none = record { in-order = refl; ratio = tt }
 
-default-in-order : settingsOf (waiting 300) ≡ InOrder (settings 300)
+takes-ten : Takes 10
 unfolding defaults settingsOf ofInt ofBits le
-default-in-order = refl
+takes-ten = record { in-order = refl; ratio = tt }
 
-from-zero : (wait : ℕ) → RatioFromZero (settings wait)
-unfolding defaults settingsFrom ofBits le
-from-zero wait = tt
+takes-default : Takes 300
+unfolding defaults settingsOf ofInt ofBits le
+takes-default = record { in-order = refl; ratio = tt }
+
+-- ---- the base's predictor
+
+-- a past of six frames, the last two loud, at a volume at which no estimate is made
+abbrev past : List Call
+past = still 50 ∷ still 50 ∷ still 50 ∷ still 50 ∷ loud 50 ∷ loud 50 ∷ []
+
+-- Quiet frames. The fourth is at a volume at which an estimate is made: with that past it predicts clipping, and the rings are emptied as late as can be.
+abbrev body : ℕ → List Call
+body k = still 50 ∷ still 50 ∷ still 50 ∷ still 200 ∷ replicate k (still 50)
+
+silence-quiet : T (quiet 1 (plusZero ∷ []))
+unfolding all isQuiet quiet ofInt le lt eq
+silence-quiet = tt
+
+twelve : LeadIn 1 quiet (enough (settings 0) - 2)
+unfolding settingsFrom withinOf frameFits all isAccepted acceptedBy acceptedIn isQuiet quiet isCalm ofInt le eq
+twelve = lead quiet silence-quiet (body 8) 12 tt (lit≤ tt)
+
+three-hundred-two : LeadIn 1 quiet (enough (settings 300) - 2)
+unfolding settingsFrom withinOf frameFits all isAccepted acceptedBy acceptedIn isQuiet quiet isCalm ofInt le eq
+three-hundred-two = lead quiet silence-quiet (body 298) 302 tt (lit≤ tt)
+
+-- ---- a small predictor of any mode
+
+abbrev smallSettings : ClippingPredictorMode → Predictor.Settings
+smallSettings mode = record { enabled = true; mode = mode; window = 2; reference = 3; delay = 1; threshold = negsuc 999; margin = pos 1000 }
+
+small-checked : (mode : ClippingPredictorMode) → Predictors.settingsOf (switched true (small mode)) ≡ PredictorChecked.InOrder (smallSettings mode)
+unfolding Predictors.settingsOf Predictors.checked Predictors.levelsInRange atLeastOf
+small-checked mode = refl
+
+abbrev newSmall : ClippingPredictorMode → ℕ → Controller
+newSmall mode wait = freshWith (smallSettings mode) (settings wait) 1
+
+-- its one loud frame is the last of three
+abbrev smallPast : List Call
+smallPast = still 50 ∷ still 50 ∷ loud 50 ∷ []
+
+-- the first quiet frame predicts clipping with that past
+abbrev smallBody : ℕ → List Call
+smallBody k = still 200 ∷ replicate k (still 50)
+
+threshold-passed : (mode : ClippingPredictorMode) → T (leZ silent (comparedIn mode (negsuc 999)))
+threshold-passed ClippingEventPrediction = tt
+threshold-passed AdaptiveStepClippingPeakPrediction = tt
+threshold-passed FixedStepClippingPeakPrediction = tt
+
+module _ (mode : ClippingPredictorMode) where
+  abbrev isStill : ℕ → List Float → Bool
+  isStill = quietFor (smallSettings mode) 1
+
+  passes : T (isStill 1 (plusZero ∷ []))
+  passes = silence-low (smallSettings mode) 1 (threshold-passed mode)
+
+  smallLead : (k least : ℕ) → least ≤ acceptedIn 1 (smallBody k) → LeadIn 1 isStill least
+  unfolding all
+  smallLead k least long =
+      lead isStill passes (smallBody k) least
+      (and-both (isCalm 1 isStill (still 200)) (all (isCalm 1 isStill) (replicate k (still 50))) (still-calm isStill passes 200) (all-replicate (isCalm 1 isStill) k (still 50) (still-calm isStill passes 50)))
+      long
+
+  three : LeadIn 1 isStill (enoughFor (smallSettings mode) (settings 0) - 2)
+  unfolding settingsFrom withinOf frameFits isAccepted acceptedBy acceptedIn
+  three = smallLead 2 3 (lit≤ tt)
+
+  nine : LeadIn 1 isStill (enoughFor (smallSettings mode) (settings 10) - 2)
+  unfolding settingsFrom withinOf frameFits isAccepted acceptedBy acceptedIn
+  nine = smallLead 8 9 (lit≤ tt)
+
+-- ---- computed
+
+-- an initialise shows that with that past a record is still missing; a clipped frame, that the wait is not over: without that past the frame empties the ring
+record Shown (mode : ClippingPredictorMode) : Type 0 where
+  filling : Apart (newSmall mode 0) smallPast (callsOf 1 (isStill mode) (three mode)) initialise 3 4
+  waiting : Apart (newSmall mode 10) smallPast (callsOf 1 (isStill mode) (nine mode)) (clipped 100) 4 0
+
+record Computed : Type 0 where
+  filling : Apart (fresh (settings 0) 1) past (callsOf 1 quiet twelve) initialise 9 10
+  waiting : Apart (fresh (settings 300) 1) past (callsOf 1 quiet three-hundred-two) (clipped 100) 10 0
+  event : Shown ClippingEventPrediction
+  adaptive : Shown AdaptiveStepClippingPeakPrediction
+  fixed : Shown FixedStepClippingPeakPrediction
+
+computed : Computed
+unfolding shownBy shown lengthOf twelve three-hundred-two three nine smallLead lead listed withinOf minus less atMost magnitudeOf Decibel.levelOf dbfs gain gainMap walk first searched frameRecord metricsOver partialMetrics sum mean largest dropBy adaptiveDrop estimateTree pushEach frameFits reached after answers called aggregateOf countOf clippedIn mostClipped clippedRatio defaults settingsFrom withAppliedInputVolume initialize lowerChannels analyzeInputAudio recommendInputVolume ofInt ofBits add mul div lt le callsOf
+computed = record {
+  filling = record { with-past = refl; without = refl };
+  waiting = record { with-past = refl; without = refl };
+  event = record { filling = record { with-past = refl; without = refl }; waiting = record { with-past = refl; without = refl } };
+  adaptive = record { filling = record { with-past = refl; without = refl }; waiting = record { with-past = refl; without = refl } };
+  fixed = record { filling = record { with-past = refl; without = refl }; waiting = record { with-past = refl; without = refl } };
+}
+
+shownIn : (mode : ClippingPredictorMode) → Shown mode
+shownIn ClippingEventPrediction = computed .event
+shownIn AdaptiveStepClippingPeakPrediction = computed .adaptive
+shownIn FixedStepClippingPeakPrediction = computed .fixed
+
+-- ---- the claim
+
+too-few-by-default : (wait : ℕ) → Takes wait → (l : LeadIn 1 quiet (enough (settings wait) - 2)) (last : Call) (one other : ℕ) → Apart (fresh (settings wait) 1) past (callsOf 1 quiet l) last one other → (one ≡ other → ⊥)
+    → TooFewByDefault (waiting wait)
+too-few-by-default wait t l last one other apart differ =
+    too-few (waiting wait) basePredictor _ quiet (enough (settings wait)) l past last one other (taken (waiting wait) basePredictor (settings wait) _ (t .in-order) (base-checked _)) (t .ratio) apart differ
+
+too-few-in : (mode : ClippingPredictorMode) (wait : ℕ) → Takes wait → (l : LeadIn 1 (isStill mode) (enoughFor (smallSettings mode) (settings wait) - 2)) (last : Call) (one other : ℕ)
+    → Apart (newSmall mode wait) smallPast (callsOf 1 (isStill mode) l) last one other → (one ≡ other → ⊥) → TooFewInMode mode (waiting wait)
+unfolding defaults settingsFrom
+too-few-in mode wait t l last one other apart differ =
+    let made = taken (waiting wait) (small mode) (settings wait) (smallSettings mode) (t .in-order) (small-checked mode) in
+    subst (λ (m : Making). TooFewWith (waiting wait) (small mode) (quietIn (m .controller) 1) (enoughIn (m .controller))) (sym made)
+    (too-few (waiting wait) (small mode) _ (isStill mode) (enoughFor (smallSettings mode) (settings wait)) l smallPast last one other made (t .ratio) apart differ)
 
 -- THE CLAIM
 pub two-fewer-are-too-few : TwoFewerAreTooFew
-unfolding initialised clippedAfter
 two-fewer-are-too-few = record {
-  with-no-wait = record {
-    settings = settings 0;
-    made = none-in-order;
-    ratio = from-zero 0;
-    refuted = λ alike. let e : shown (initialised past) ≡ shown (initialised []) = ap shown (alike twelve past [] (initialise ∷ [])) in omega (arith, e, computed .nine, computed .ten);
-  };
-  by-default = record {
-    settings = settings 300;
-    made = default-in-order;
-    ratio = from-zero 300;
-    refuted = λ alike. let e : shown (clippedAfter past) ≡ shown (clippedAfter []) = ap shown (alike three-hundred-two past [] (clipped 100 ∷ [])) in omega (arith, e, computed .full, computed .empty);
-  };
+  with-no-wait = too-few-by-default 0 takes-none twelve initialise 9 10 (computed .filling) (λ e. omega (arith, e));
+  by-default = too-few-by-default 300 takes-default three-hundred-two (clipped 100) 10 0 (computed .waiting) (λ e. omega (arith, e));
+  in-every-mode = λ mode. too-few-in mode 0 takes-none (three mode) initialise 3 4 (shownIn mode .filling) (λ e. omega (arith, e));
+  in-every-mode-with-a-wait = λ mode. too-few-in mode 10 takes-ten (nine mode) (clipped 100) 4 0 (shownIn mode .waiting) (λ e. omega (arith, e));
 }

@@ -1,45 +1,69 @@
--- Two pasts, of controllers from their making on. Assumes nothing.
-use mathlib.Core.Path.{_≡_, sym, _∙_, subst}
-use mathlib.Core.List.{List}
+-- Two pasts, of controllers from their making on, with every predictor and with the base's. Assumes nothing.
+use mathlib.Core.Path.{_≡_, sym, ap, _∙_, subst}
+use mathlib.Core.Bool.{Bool}
+use mathlib.Core.List.{List, _++_}
 use Prim.Native.Nat.{ℕ}
 use lib.IntN.{pos}
-use Rattle.numbers.specs.declared.refusal.Outcome.the-variants.{Accepted}
-use Rattle.numbers.proofs.Said.{outcome-fixed}
+use lib.Ieee.{Float}
+use Rattle.clipping_predictor.specs.declared.settings.ClippingPredictorConfig.{ClippingPredictorConfig}
 use Rattle.mono_input_volume_controller.specs.declared.config.Config.{Config}
 use Rattle.mono_input_volume_controller.specs.Config.{settingsFrom}
 use Rattle.input_volume_controller.specs.declared.InputVolumeController.{InputVolumeController}
-use Rattle.input_volume_controller.specs.Controller.{Controller, makingOf}
-use Rattle.input_volume_controller.specs.Calls.{Call, Answer}
+use Rattle.input_volume_controller.specs.Controller.{Controller, viewOf, basePredictor, makingWith}
+use Rattle.input_volume_controller.specs.Calls.{Call, Answer, after, answers}
 use Rattle.claims.specs.LeadIn.{quiet, LeadIn, callsOf}
-use Rattle.claims.specs.TwoPasts.{AlikeAfter, RatioFromZero, enough}
-use Rattle.claims.specs.InCode.{Had}
-use Rattle.claims.specs.Made.{MadeAndHad, ThresholdFromZero, TwoPastsOfMakings}
-use Rattle.claims.proofs.Made.{made-fresh}
-use Rattle.claims.proofs.TwoPasts.{two-pasts}
-use Rattle.claims.proofs.InCode.{two-pasts-in-code}
+use Rattle.claims.specs.TwoPasts.{RatioFromZero, enough}
+use Rattle.claims.specs.Run.{RunIsAfter}
+use Rattle.claims.specs.Made.{MadeAndHad, ThresholdFromZero, AlikeAfterLeadIn, quietIn, enoughIn, TwoPasts, TwoPastsByDefault}
+use Rattle.claims.proofs.Run.{runs-are-runs}
+use Rattle.claims.proofs.Free.{free-is-unheard}
+use Rattle.claims.proofs.Made.{made-fresh, chosen-good, made-fresh-by-default}
+use Rattle.claims.proofs.EveryMode.{same-state-as-asked}
+use Rattle.claims.proofs.TwoPasts.{led-by-own}
+
+-- ---- two pasts that lead to the same state cannot be told apart, in the code neither
+
+module _ (channels : ℕ) (config : Config) (predictor : ClippingPredictorConfig) where
+  abbrev new : Controller
+  new = makingWith (pos channels) config predictor .controller
+
+  run-of : (calls : List Call) (heard : List Answer) (c : InputVolumeController) (m : MadeAndHad (pos channels) config predictor calls heard c) → RunIsAfter (m .made .controller) calls heard c
+  run-of calls heard c m = runs-are-runs _ _ _ _ (m .created .good) (m .run)
+
+  stands : (calls : List Call) (heard : List Answer) (c : InputVolumeController) → MadeAndHad (pos channels) config predictor calls heard c → viewOf c ≡ after new calls
+  stands calls heard c m = run-of calls heard c m .view ∙ ap (λ (x : Controller). after x calls) (m .created .view)
+
+  alike : (isStill : ℕ → List Float → Bool) (least : ℕ)
+      → ((l : LeadIn channels isStill least) (past other : List Call) → after new (past ++ callsOf channels isStill l) ≡ after new (other ++ callsOf channels isStill l))
+      → AlikeAfterLeadIn channels config predictor isStill least
+  alike isStill least same = record {
+    defined = λ l past other calls. ap (λ (c : Controller). answers c calls) (same l past other);
+    in-code = λ l past other one two a b m n. free-is-unheard a b (run-of _ one a m .good) (run-of _ two b n .good) (stands _ one a m ∙ same l past other ∙ sym (stands _ two b n));
+  }
+
+-- ---- every predictor that a making takes
 
 ratio : (config : Config) → ThresholdFromZero config → RatioFromZero (settingsFrom config)
 unfolding settingsFrom
 ratio config h = h
 
-defined : (channels : ℕ) (config : Config) → makingOf (pos channels) config .answer ≡ Accepted → ThresholdFromZero config → (l : LeadIn channels quiet (enough (settingsFrom config)))
-    → AlikeAfter (makingOf (pos channels) config .controller) (callsOf channels quiet l)
-defined channels config accepted h l =
-    subst (λ (c : Controller). AlikeAfter c (callsOf channels quiet l)) (sym (made-fresh channels config accepted)) (two-pasts (settingsFrom config) channels (ratio config h) l)
-
-had : (channels : ℕ) (config : Config) (calls : List Call) (heard : List Answer) (c : InputVolumeController) → MadeAndHad (pos channels) config calls heard c → Had (settingsFrom config) channels calls c
-had channels config calls heard c m = record {
-  new = m .made .controller;
-  good = m .created .good;
-  made = m .created .view ∙ made-fresh channels config (sym (outcome-fixed _ _ (m .created .answer)) ∙ m .accepted);
-  heard = heard;
-  run = m .run;
-}
-
 -- THE CLAIM
-pub two-pasts-of-makings : TwoPastsOfMakings
-two-pasts-of-makings = record {
-  defined = defined;
-  in-code = λ channels config h l past other one two a b m n.
-      two-pasts-in-code (settingsFrom config) channels (ratio config h) l past other a b (had channels config _ one a m) (had channels config _ two b n);
-}
+pub two-pasts : TwoPasts
+two-pasts channels config predictor m =
+    let f = made-fresh channels config predictor (m .accepted) in
+    let alike-in : Controller → Type 0 = λ c. (l : LeadIn channels (quietIn c channels) (enoughIn c)) (past other : List Call)
+    → after c (past ++ callsOf channels (quietIn c channels) l) ≡ after c (other ++ callsOf channels (quietIn c channels) l) in
+    alike channels config predictor _ _ (subst alike-in (sym (f .is)) (same-state-as-asked (f .predictor) (settingsFrom config) channels (chosen-good _ f) (ratio config (m .ratio))))
+
+-- ---- the base's
+
+-- THE CLAIM, a corollary
+pub two-pasts-by-default : TwoPastsByDefault
+unfolding callsOf led-by-own
+two-pasts-by-default channels config m =
+    let s = settingsFrom config in
+    let t = subst (λ (c : Controller). AlikeAfterLeadIn channels config basePredictor (quietIn c channels) (enoughIn c)) (made-fresh-by-default channels config (m .accepted)) (two-pasts channels config basePredictor m) in
+    record {
+      defined = λ l. t .defined (led-by-own s channels (enough s) l);
+      in-code = λ l. t .in-code (led-by-own s channels (enough s) l);
+    }

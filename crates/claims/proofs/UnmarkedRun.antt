@@ -22,6 +22,7 @@ use Rattle.clipping_predictor.specs.Tree.{reached, marked}
 use Rattle.clipping_predictor.specs.Estimate.{estimateTree, estimated, capacityOf}
 use Rattle.clipping_predictor.specs.Predictor.{Predictor, partOf, levelsOf, pushEach, frameFits, enteredIf}
 use Rattle.clipping_predictor.specs.AllRings.{noEstimate, joined, predictedBy}
+use Rattle.clipping_predictor.specs.declared.settings.ClippingPredictorConfig.{ClippingPredictorConfig}
 use Rattle.mono_input_volume_controller.specs.declared.config.Config.{Config}
 use Rattle.mono_input_volume_controller.specs.declared.config.Checked.{Checked}
 use Rattle.mono_input_volume_controller.specs.declared.config.Checked.the-variants as Checked
@@ -33,7 +34,7 @@ use Rattle.input_volume_controller.specs.declared.Applied.{Applied}
 use Rattle.input_volume_controller.specs.declared.Applied.the-variants.{Nothing, Volume}
 use Rattle.clipping_predictor.specs.Predictor.{maxChannels}
 use Rattle.input_volume_controller.specs.ClippedRatio.{clippedRatio}
-use Rattle.input_volume_controller.specs.Controller.{Controller, madeOf, makingOf}
+use Rattle.input_volume_controller.specs.Controller.{Controller, makingWith}
 use Rattle.input_volume_controller.specs.Reply.{Stepped}
 use Rattle.input_volume_controller.specs.Frame.{askedOf, handleIf, handled, unlessWaitingBy, ifUsedBy, unlessRefusedBy, unlessWaiting, ifUsed, unlessRefused, withVolumeApplied, analyzeInputAudio}
 use Rattle.input_volume_controller.specs.Recommendation.{recommendIf, unlessNone, recommendInputVolume}
@@ -46,6 +47,7 @@ use Rattle.claims.specs.Unmarked.{PeakFits}
 use Rattle.claims.specs.ExactRun.{exactPredicted, exactFrame, exactStep, exactAfter, exactAnswers, NotNear, Unmarked, SameAsExact, HeardAsExact, UnmarkedRunIsExact}
 use Rattle.claims.proofs.Run.{runs-are-runs}
 use Rattle.claims.proofs.Every.{every-drop, every-take, every-from, every-listed, every-map, every-replicate}
+use Rattle.claims.proofs.Fresh.{making-fresh}
 use Rattle.claims.proofs.Unmarked.{fold-fits, zero-fits, unmarked-is-exact}
 
 -- ---- all rings of a predictor
@@ -176,15 +178,10 @@ from c (call ∷ calls) f g m =
       state-is = rest .state-is ∙ ap (λ (s : Stepped). exactAfter (s .state) calls) e;
     }
 
-made-fit : (v : Natural) (checked : Checked) → Every (Every PeakFits) (madeOf v checked .controller .predictor .rings)
-unfolding madeOf
-made-fit Outside checked = (tt, tt)
-made-fit (Number n) (Checked.Refused cause) = (tt, tt)
-made-fit (Number n) (Checked.InOrder s) = every-replicate (Every PeakFits) n [] tt
-
-making-fits : (channels : ℤ) (config : Config) → Every (Every PeakFits) (makingOf channels config .controller .predictor .rings)
-unfolding makingOf
-making-fits channels config = made-fit (withinOf 1 maxChannels channels) (settingsOf config)
+making-fits : (channels : ℤ) (config : Config) (predictor : ClippingPredictorConfig) → Every (Every PeakFits) (makingWith channels config predictor .controller .predictor .rings)
+making-fits channels config predictor =
+    let f = making-fresh channels config predictor in
+    subst (λ (c : Controller). Every (Every PeakFits) (c .predictor .rings)) (sym (f .is)) (every-replicate (Every PeakFits) (f .count) [] tt)
 
 -- ---- the code
 
@@ -192,19 +189,19 @@ typed : {c : InputVolumeController} {calls : List Call} {heard : List Answer} {e
 typed none = tt
 typed (next h r) = (h .typed, typed r)
 
-in-code : (channels : ℤ) (config : Config) (calls : List Call) (heard : List Answer) (c : InputVolumeController) → MadeAndHad channels config calls heard c → Every Unmarked heard
-    → HeardAsExact (makingOf channels config .controller) calls heard c
-in-code channels config calls heard c h m =
-    let new : Controller = makingOf channels config .controller in
+in-code : (channels : ℤ) (config : Config) (predictor : ClippingPredictorConfig) (calls : List Call) (heard : List Answer) (c : InputVolumeController) → MadeAndHad channels config predictor calls heard c
+    → Every Unmarked heard → HeardAsExact (makingWith channels config predictor .controller) calls heard c
+in-code channels config predictor calls heard c h m =
+    let new : Controller = makingWith channels config predictor .controller in
     let r = runs-are-runs (h .made .controller) calls heard c (h .created .good) (h .run) in
     let said : heard ≡ answers new calls = r .answered ∙ ap (λ (x : Controller). answers x calls) (h .created .view) in
-    let e = from new calls (making-fits channels config) (typed (h .run)) (subst (Every Unmarked) said m) in
+    let e = from new calls (making-fits channels config predictor) (typed (h .run)) (subst (Every Unmarked) said m) in
     record { heard-is = said ∙ e .answers-are; view-is = r .view ∙ ap (λ (x : Controller). after x calls) (h .created .view) ∙ e .state-is }
 
 -- THE CLAIM
 pub unmarked-run-is-exact : UnmarkedRunIsExact
 unmarked-run-is-exact = record {
   from = from;
-  made = λ channels config calls f m. from (makingOf channels config .controller) calls (making-fits channels config) f m;
+  made = λ channels config predictor calls f m. from (makingWith channels config predictor .controller) calls (making-fits channels config predictor) f m;
   in-code = in-code;
 }

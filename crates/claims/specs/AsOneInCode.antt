@@ -4,10 +4,11 @@ use mathlib.Core.Path.{_≡_}
 use mathlib.Core.List.{List, map}
 use Prim.Native.Nat.{ℕ, _<_}
 use lib.IntN.{ℤ}
+use Rattle.clipping_predictor.specs.declared.settings.ClippingPredictorConfig.{ClippingPredictorConfig}
 use Rattle.mono_input_volume_controller.specs.declared.config.Config.{Config}
 use Rattle.input_volume_controller.specs.declared.InputVolumeController.{InputVolumeController}
 use Rattle.input_volume_controller.specs.declared.Created.{Created}
-use Rattle.input_volume_controller.specs.Controller.{viewOf, CreatedOf}
+use Rattle.input_volume_controller.specs.Controller.{viewOf, CreatedWith}
 use Rattle.input_volume_controller.specs.Calls.{Call, Answer}
 use Rattle.agc2.specs.declared.answers.Agc2Controller.{Agc2Controller}
 use Rattle.agc2.specs.Whole.{wholeOf}
@@ -22,12 +23,13 @@ channelsIn c = c .control .channels .count
 
 -- ---- the code
 
--- what `InputVolumeController::new` handed back is what its contract says, and c is that controller after some calls, of which this was heard
+-- what `InputVolumeController::with_predictor` handed back, or `new`, which is that with the base's predictor, is what its contract says, and c is that controller after some calls, of which this was heard
 pub record HasPast (c : InputVolumeController) : Type 0 where
   pub channels : ℤ
   pub config : Config
+  pub predictor : ClippingPredictorConfig
   pub made : Created
-  pub created : CreatedOf channels config made
+  pub created : CreatedWith channels config predictor made
   pub calls : List Call
   pub heard : List Answer
   pub run : Run (made .controller) calls heard c
@@ -40,12 +42,13 @@ pub record AsOneInCode : Type 0 where
 
 -- ---- the static library
 
--- the same of `agc2_new_by_value` and the exported calls
+-- the same of `agc2_new_with_predictor_by_value`, of `agc2_new_by_value` and of the exported calls
 pub record HasLibraryPast (c : Agc2Controller) : Type 0 where
   pub channels : ℤ
   pub config : Config
+  pub predictor : ClippingPredictorConfig
   pub made : Agc2Controller
-  pub created : Library.CreatedOf channels config made
+  pub created : Library.CreatedWith channels config predictor made
   pub calls : List Call
   pub heard : List Heard
   pub run : LibraryRun made calls heard c

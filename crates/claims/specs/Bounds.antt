@@ -1,6 +1,6 @@
 -- Bounds. Document 01: "With capture on and an applied volume above 0, every recommendation lies from min_input_volume to 255." And every volume that is answered is from 0 to 255.
--- It reaches the code by the contracts of `InputVolumeController::{new, analyze_input_audio, recommend_input_volume, initialize, handle_capture_output_used_change}`: what `new` hands back is
--- `makingOf` (`CreatedOf`), each other call one step of the definition, and its reply (`Does`), so a run of the functions is a run of `after` (Run.antt). Definitions only.
+-- It reaches the code by the contracts of `InputVolumeController::{new, with_predictor, analyze_input_audio, recommend_input_volume, initialize, handle_capture_output_used_change}`: what the makings
+-- hand back is `makingWith` (`CreatedOf`, `CreatedWith`), each other call one step of the definition, and its reply (`Does`), so a run of the functions is a run of `after` (Run.antt). Definitions only.
 use mathlib.Core.Path.{_≡_}
 use mathlib.Core.Bool.{true}
 use mathlib.Core.List.{List}
@@ -9,10 +9,11 @@ use lib.IntN.{ℤ, pos}
 use lib.Signed.{_≤ℤ_}
 use lib.Ieee.{Float}
 use Rattle.numbers.specs.declared.refusal.Outcome.the-variants.{Accepted}
+use Rattle.clipping_predictor.specs.declared.settings.ClippingPredictorConfig.{ClippingPredictorConfig}
 use Rattle.mono_input_volume_controller.specs.declared.config.Config.{Config}
 use Rattle.mono_input_volume_controller.specs.declared.speech_level.SpeechLevel.{SpeechLevel}
 use Rattle.input_volume_controller.specs.declared.Applied.the-variants.{Volume}
-use Rattle.input_volume_controller.specs.Controller.{Controller, makingOf}
+use Rattle.input_volume_controller.specs.Controller.{Controller, makingWith}
 use Rattle.input_volume_controller.specs.Reply.{Reply, volume}
 use Rattle.input_volume_controller.specs.Calls.{Call, recommendation, step, after, answerOf}
 
@@ -37,7 +38,9 @@ pub record AnswersVolumes (c : Controller) (call : Call) : Type 0 where
   pub reply : (z : ℤ) → step c call .reply ≡ volume z → Within (pos 0) z
   pub after : answerOf (step c call) .volume ≤ 255
 
--- THE CLAIM, after any calls on a controller that was made
+-- THE CLAIM, after any calls on a controller that was made, with any predictor
 pub record Bounds : Type 0 where
-  pub recommendations : (channels : ℤ) (config : Config) → makingOf channels config .answer ≡ Accepted → (calls : List Call) → InBounds (config .«min_input_volume») (after (makingOf channels config .controller) calls)
-  pub answered : (channels : ℤ) (config : Config) → makingOf channels config .answer ≡ Accepted → (calls : List Call) (call : Call) → AnswersVolumes (after (makingOf channels config .controller) calls) call
+  pub recommendations : (channels : ℤ) (config : Config) (predictor : ClippingPredictorConfig) → makingWith channels config predictor .answer ≡ Accepted
+      → (calls : List Call) → InBounds (config .«min_input_volume») (after (makingWith channels config predictor .controller) calls)
+  pub answered : (channels : ℤ) (config : Config) (predictor : ClippingPredictorConfig) → makingWith channels config predictor .answer ≡ Accepted
+      → (calls : List Call) (call : Call) → AnswersVolumes (after (makingWith channels config predictor .controller) calls) call

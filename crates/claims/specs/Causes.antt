@@ -4,10 +4,11 @@ use mathlib.Core.List.{List, [], _∷_}
 use mathlib.Core.Option.{Option, none, some}
 use Prim.Native.Nat.{ℕ, _*_}
 use lib.Dec.{ltb, eqb}
-use lib.IntN.{ℤ, pos, negsuc}
-use lib.Signed.{ltZ}
+use lib.IntN.{ℤ, pos, negsuc, _+ℤ_}
+use lib.Signed.{ltZ, leZ}
 use lib.Ieee.{Float, binary32, le, ofInt}
 use lib.ListN.{length}
+use Rattle.clipping_predictor.specs.declared.settings.ClippingPredictorConfig.{ClippingPredictorConfig}
 use Rattle.mono_input_volume_controller.specs.declared.config.Config.{Config}
 use Rattle.input_volume_controller.specs.Calls.{Call, frame, recommendation, initialise, captureSwitch}
 
@@ -49,9 +50,34 @@ callCauses channels (recommendation probability level) = []
 callCauses channels initialise = []
 callCauses channels (captureSwitch on) = []
 
--- the making
-abbrev pub makingCauses : ℤ → Config → List Cause
-makingCauses channels config =
+-- ---- a predictor's configuration
+
+-- every window fault but that of the sum: "window and reference length at least 1, delay at least 0, delay + reference above window"
+abbrev pub windowsOut : ℤ → ℤ → ℤ → Bool
+windowsOut window reference delay = ltZ window (pos 1) || (ltZ reference (pos 1) || (ltZ delay (pos 0) || leZ (delay +ℤ reference) window))
+
+-- "a sum of delay and reference above 64"
+abbrev pub sumOut : ℤ → ℤ → Bool
+sumOut reference delay = ltZ (pos 64) (delay +ℤ reference)
+
+-- "threshold and margin within -200,000 to 200,000 thousandths"; `negsuc 199999` is -200,000
+abbrev pub levelsOut : ℤ → ℤ → Bool
+levelsOut threshold margin = outside (negsuc 199999) (pos 200000) threshold || outside (negsuc 199999) (pos 200000) margin
+
+-- "7 stays for every other window fault, and is tested before 14, which is tested before 15": so 14 is said where the sum is the windows' one fault, and 15 where the windows are in order.
+-- "Causes 1 and 7 are tested also for a predictor that is off", and "what document 01 says of 7 otherwise holds for all three": the switch stands in no cause
+abbrev pub predictorFaults : ClippingPredictorConfig → List Cause
+predictorFaults c =
+    record { number = 7; holds = windowsOut (c .«window_length») (c .«reference_window_length») (c .«reference_window_delay») }
+    ∷ record { number = 14; holds = sumOut (c .«reference_window_length») (c .«reference_window_delay») }
+    ∷ record { number = 15; holds = levelsOut (c .«clipping_threshold») (c .«crest_factor_margin») }
+    ∷ []
+
+-- ---- the making
+
+-- causes 1 to 6, and what comes after them
+abbrev pub settingsCauses : ℤ → Config → List Cause → List Cause
+settingsCauses channels config later =
     -- "channel count not 1 to 8"
     record { number = 1; holds = outside (pos 1) (pos 8) channels }
     -- "min_input_volume or clipped_level_min not 0 to 255"
@@ -64,4 +90,8 @@ makingCauses channels config =
     ∷ record { number = 5; holds = outside (negsuc 89) (pos 30) (config .«target_range_max_dbfs») || outside (negsuc 89) (pos 30) (config .«target_range_min_dbfs») }
     -- "speech probability or speech ratio threshold not 0 to 1, or not a number"
     ∷ record { number = 6; holds = outsideUnit (config .«speech_probability_threshold») || outsideUnit (config .«speech_ratio_threshold») }
-    ∷ []
+    ∷ later
+
+-- "It refuses faults of windows, threshold or margin as a predictor's making does, after number 6 and also with the predictor off"
+abbrev pub makingCauses : ℤ → Config → ClippingPredictorConfig → List Cause
+makingCauses channels config predictor = settingsCauses channels config (predictorFaults predictor)

@@ -14,9 +14,8 @@ use Rattle.claims.specs.Levels.{LevelsWithinOne}
 use Rattle.claims.specs.Marked.{MarkedExactly}
 use Rattle.claims.specs.Unmarked.{UnmarkedIsExact}
 use Rattle.claims.specs.ExactRun.{UnmarkedRunIsExact}
-use Rattle.claims.specs.TwoPasts.{TwoPasts, TwoPastsInEveryMode}
-use Rattle.claims.specs.InCode.{TwoPastsInCode}
-use Rattle.claims.specs.Made.{TwoPastsOfMakings}
+use Rattle.claims.specs.TwoPasts.{TwoPastsInEveryMode}
+use Rattle.claims.specs.Made.{TwoPasts, TwoPastsByDefault}
 use Rattle.claims.specs.Sharp.{LeadInsExist, AcceptedIsNotRefused, OneFewerIsEnough, TwoFewerAreTooFew}
 use Rattle.claims.specs.Needed.{PartsAreNeeded}
 use Rattle.claims.specs.Starred.{StarredCases}
@@ -33,11 +32,11 @@ pub record Claims : Type 0 where
   pub runs : RunsAreRuns
   -- and so is a sequence of the static library's calls, with its answers in numbers
   pub library : LibraryRunsAreRuns
-  -- and none of these is empty: every making hands something back, and from there every list of calls has a run
+  -- and none of these is empty: every making, with any predictor, hands something back, and from there every list of calls has a run
   pub runs-exist : RunsExist
   -- what the contracts leave free (tails, unused places, rings and channels past the count) is heard in no answer of any later call
   pub free : FreeIsUnheard
-  -- a refused call changes nothing, and its number is the first cause in the table's order that holds
+  -- a refused call changes nothing, and its number is the first cause in the table's order that holds; in a making the predictor's causes come last, whether it is on or off
   pub refused : RefusedCalls
   -- and so say the calls of the crates below
   pub refused-below : RefusedBelow
@@ -53,12 +52,12 @@ pub record Claims : Type 0 where
   -- definition asks for, and a value at 1 or below counts as 1
   pub unmarked : UnmarkedIsExact
   pub unmarked-run : UnmarkedRunIsExact
-  -- two controllers with equal settings cannot be told apart after the same lead-in, whatever their pasts: of the definitions, of the code, from the making on, and for every predictor
+  -- two controllers with equal settings and equal predictors cannot be told apart after the same lead-in, whatever their pasts: for every predictor that a making takes, in the definition and in the code; with
+  -- the base's predictor in document 01's own words; and what both rest on, of fresh controllers with any settings
   pub two-pasts : TwoPasts
-  pub two-pasts-in-code : TwoPastsInCode
-  pub two-pasts-of-makings : TwoPastsOfMakings
+  pub two-pasts-by-default : TwoPastsByDefault
   pub two-pasts-in-every-mode : TwoPastsInEveryMode
-  -- that claim is not empty, and asks for one frame more than it needs, since the last one counts too: lead-ins exist, one frame fewer does, two do not, and no part may be left out
+  -- that claim is not empty, and asks for one frame more than it needs, since the last one counts too: lead-ins exist, one frame fewer does, two do not, in no mode, and no part may be left out
   pub lead-ins-exist : LeadInsExist
   pub accepted-is-not-refused : AcceptedIsNotRefused
   pub one-fewer-is-enough : OneFewerIsEnough

@@ -3,14 +3,16 @@
 use mathlib.Core.Path.{_≡_}
 use lib.IntN.{pos}
 use Rattle.numbers.specs.declared.refusal.Outcome.the-variants.{Accepted}
+use Rattle.clipping_predictor.specs.declared.settings.ClippingPredictorConfig.{ClippingPredictorConfig}
 use Rattle.mono_input_volume_controller.specs.declared.config.Config.{Config}
-use Rattle.input_volume_controller.specs.Controller.{freshWith, makingOf}
+use Rattle.input_volume_controller.specs.Controller.{freshWith, makingWith}
 use Rattle.claims.specs.Depends.{History, standing, Part, AgreeIn, AgreeInAll, ReplyAlike}
 
 -- a making accepts and hands back the controller with which this past began
 pub record Taken (h : History) : Type 0 where
   pub config : Config
-  pub made : makingOf (pos (h .channels)) config ≡ record { answer = Accepted; controller = freshWith (h .predictor) (h .settings) (h .channels) }
+  pub predictor : ClippingPredictorConfig
+  pub made : makingWith (pos (h .channels)) config predictor ≡ record { answer = Accepted; controller = freshWith (h .predictor) (h .settings) (h .channels) }
 
 -- two controllers that makings took, after calls of their own
 pub record Two : Type 0 where

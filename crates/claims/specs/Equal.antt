@@ -1,7 +1,7 @@
 -- All channels as one. Document 02 (xiii): "after any sequence of accepted and refused calls all channel states are equal and the controlling channel is 0, for every channel count at once". What the
 -- replies depend on is the second half (Depends.antt).
--- It reaches the code by the contracts of `InputVolumeController::{new, analyze_input_audio, recommend_input_volume, initialize, handle_capture_output_used_change}`: the first hands back the
--- fresh controller (`CreatedOf`), each other one step of the definition (`Does`), so a run of the functions is a run of `after` (Run.antt); `AsOneInCode` and `AsOneInLibrary` say so. Definitions only.
+-- It reaches the code by the contracts of `InputVolumeController::{new, with_predictor, analyze_input_audio, recommend_input_volume, initialize, handle_capture_output_used_change}`: the first two
+-- hand back the fresh controller (`CreatedOf`, `CreatedWith`), each other one step of the definition (`Does`), so a run of the functions is a run of `after` (Run.antt); `AsOneInCode` and `AsOneInLibrary` say so. Definitions only.
 use mathlib.Core.Path.{_≡_}
 use mathlib.Core.List.{List}
 use Prim.Native.Nat.{ℕ}

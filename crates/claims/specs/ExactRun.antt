@@ -10,9 +10,10 @@ use Rattle.clipping_predictor_level_buffer.specs.declared.level.Level.{Level}
 use Rattle.clipping_predictor.specs.declared.modes.Asked.{Asked}
 use Rattle.clipping_predictor.specs.declared.modes.Estimated.{Estimated}
 use Rattle.clipping_predictor.specs.Predictor.{Predictor}
+use Rattle.clipping_predictor.specs.declared.settings.ClippingPredictorConfig.{ClippingPredictorConfig}
 use Rattle.mono_input_volume_controller.specs.declared.config.Config.{Config}
 use Rattle.input_volume_controller.specs.declared.InputVolumeController.{InputVolumeController}
-use Rattle.input_volume_controller.specs.Controller.{Controller, viewOf, makingOf}
+use Rattle.input_volume_controller.specs.Controller.{Controller, viewOf, makingWith}
 use Rattle.input_volume_controller.specs.Reply.{Reply, mark, refusal, volume, none, done, Stepped}
 use Rattle.input_volume_controller.specs.Frame.{frameBy}
 use Rattle.input_volume_controller.specs.Calls.{Call, frame, recommendation, initialise, captureSwitch, step, after, Answer, answerOf, answers, Typed}
@@ -69,9 +70,10 @@ pub record HeardAsExact (new : Controller) (calls : List Call) (heard : List Ans
   pub heard-is : heard ≡ exactAnswers new calls
   pub view-is : viewOf c ≡ exactAfter new calls
 
--- THE CLAIM, for a controller whose rings hold 32-bit floats, and so for every one that is made; of the code nothing is asked, since its samples are 32-bit floats
+-- THE CLAIM, for a controller whose rings hold 32-bit floats, and so for every one that is made, with any predictor; of the code nothing is asked, since its samples are 32-bit floats
 pub record UnmarkedRunIsExact : Type 0 where
   pub from : (c : Controller) (calls : List Call) → Every (Every PeakFits) (c .predictor .rings) → Every Typed calls → Every Unmarked (answers c calls) → SameAsExact c calls
-  pub made : (channels : ℤ) (config : Config) (calls : List Call) → Every Typed calls → Every Unmarked (answers (makingOf channels config .controller) calls) → SameAsExact (makingOf channels config .controller) calls
-  pub in-code : (channels : ℤ) (config : Config) (calls : List Call) (heard : List Answer) (c : InputVolumeController) → MadeAndHad channels config calls heard c → Every Unmarked heard
-      → HeardAsExact (makingOf channels config .controller) calls heard c
+  pub made : (channels : ℤ) (config : Config) (predictor : ClippingPredictorConfig) (calls : List Call) → Every Typed calls → Every Unmarked (answers (makingWith channels config predictor .controller) calls)
+      → SameAsExact (makingWith channels config predictor .controller) calls
+  pub in-code : (channels : ℤ) (config : Config) (predictor : ClippingPredictorConfig) (calls : List Call) (heard : List Answer) (c : InputVolumeController)
+      → MadeAndHad channels config predictor calls heard c → Every Unmarked heard → HeardAsExact (makingWith channels config predictor .controller) calls heard c

@@ -4,7 +4,7 @@
 use mathlib.Core.Path.{_≡_}
 use Rattle.input_volume_controller.specs.declared.InputVolumeController.{InputVolumeController}
 use Rattle.input_volume_controller.specs.Controller.{viewOf, Good}
-use Rattle.claims.specs.InCode.{SoundAlike}
+use Rattle.claims.specs.Run.{SoundAlike}
 
 -- THE CLAIM
 abbrev pub FreeIsUnheard : Type 0

@@ -15,7 +15,6 @@ pub mod Starred
 pub mod LeadIn
 pub mod TwoPasts
 pub mod Sharp
-pub mod InCode
 pub mod Free
 pub mod Made
 pub mod RunsExist

@@ -1,6 +1,6 @@
 -- None. Document 01: 'The recommendation is "none" exactly if no frame was accepted since the making, the last initialise, or the last recommendation with capture on, whichever came latest.'
--- It reaches the code by the contracts of `InputVolumeController::{new, analyze_input_audio, recommend_input_volume, initialize, handle_capture_output_used_change}`: the first hands back the
--- fresh controller (`CreatedOf`), each other one step of the definition, and its reply (`Does`), so a run of the functions is a run of `after` (Run.antt). Definitions only.
+-- It reaches the code by the contracts of `InputVolumeController::{new, with_predictor, analyze_input_audio, recommend_input_volume, initialize, handle_capture_output_used_change}`: the first two
+-- hand back the fresh controller (`CreatedOf`, `CreatedWith`), each other one step of the definition, and its reply (`Does`), so a run of the functions is a run of `after` (Run.antt). Definitions only.
 use mathlib.Core.Path.{_≡_}
 use mathlib.Core.Bool.{Bool, true, false, not, _&&_, _||_}
 use mathlib.Core.Logic.{_↔_}

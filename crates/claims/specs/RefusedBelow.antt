@@ -24,7 +24,7 @@ use Rattle.clipping_predictor.specs.Predictor.{Predictor, unmadeSettings, empty
 use Rattle.clipping_predictor.specs.EstimateCall.{argumentsOf, estimateSays, estimateOf}
 use Rattle.mono_input_volume_controller.specs.declared.speech_level.SpeechLevel.{SpeechLevel}
 use Rattle.mono_input_volume_controller.specs.SpeechError.{speechErrorSays, speechErrorOf}
-use Rattle.claims.specs.Causes.{Cause, firstOf, outside}
+use Rattle.claims.specs.Causes.{Cause, firstOf, outside, predictorFaults}
 
 -- "The bare volume step tests 2 (its minimum), 8, 10 (its maximum not 0 to 255, or the volume above it; a minimum above the maximum is let through)."
 abbrev pub volumeStepCauses : ℤ → ℤ → ℤ → List Cause
@@ -34,27 +34,9 @@ volumeStepCauses volume min max =
     ∷ record { number = 10; holds = outside (pos 0) (pos 255) max || ltZ max volume }
     ∷ []
 
--- every window fault but that of the sum: "window and reference length at least 1, delay at least 0, delay + reference above window"
-abbrev pub windowsOut : ℤ → ℤ → ℤ → Bool
-windowsOut window reference delay = ltZ window (pos 1) || (ltZ reference (pos 1) || (ltZ delay (pos 0) || leZ (delay +ℤ reference) window))
-
--- "a sum of delay and reference above 64"
-abbrev pub sumOut : ℤ → ℤ → Bool
-sumOut reference delay = ltZ (pos 64) (delay +ℤ reference)
-
--- "threshold and margin within -200,000 to 200,000 thousandths"; `negsuc 199999` is -200,000
-abbrev pub levelsOut : ℤ → ℤ → Bool
-levelsOut threshold margin = outside (negsuc 199999) (pos 200000) threshold || outside (negsuc 199999) (pos 200000) margin
-
--- "7 stays for every other window fault, and is tested before 14, which is tested before 15": so 14 is said where the sum is the windows' one fault, and 15 where the windows are in order.
--- "Causes 1 and 7 are tested also for a predictor that is off", and "what document 01 says of 7 otherwise holds for all three": the switch stands in no cause
+-- "channel count not 1 to 8", and then the faults of the configuration
 abbrev pub predictorCauses : ℤ → ClippingPredictorConfig → List Cause
-predictorCauses channels c =
-    record { number = 1; holds = outside (pos 1) (pos 8) channels }
-    ∷ record { number = 7; holds = windowsOut (c .«window_length») (c .«reference_window_length») (c .«reference_window_delay») }
-    ∷ record { number = 14; holds = sumOut (c .«reference_window_length») (c .«reference_window_delay») }
-    ∷ record { number = 15; holds = levelsOut (c .«clipping_threshold») (c .«crest_factor_margin») }
-    ∷ []
+predictorCauses channels c = record { number = 1; holds = outside (pos 1) (pos 8) channels } ∷ predictorFaults c
 
 -- "samples per channel not 1 to 480, or lent samples not channels × that"
 abbrev pub predictorFrameCauses : ℕ → ℕ → List Float → List Cause

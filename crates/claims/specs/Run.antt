@@ -26,3 +26,7 @@ pub record RunIsAfter (c : InputVolumeController) (calls : List Call) (all : Lis
 -- THE CLAIM
 abbrev pub RunsAreRuns : Type 0
 RunsAreRuns = (c : InputVolumeController) (calls : List Call) (all : List Answer) (e : InputVolumeController) → Good c → Run c calls all e → RunIsAfter c calls all e
+
+-- what is heard of two controllers of the code in the same calls is the same
+abbrev pub SoundAlike : InputVolumeController → InputVolumeController → Type 0
+SoundAlike a b = (calls : List Call) (one other : List Answer) (c d : InputVolumeController) → Run a calls one c → Run b calls other d → one ≡ other

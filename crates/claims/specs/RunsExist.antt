@@ -2,10 +2,11 @@
 -- is one that the contracts allow: which of them the functions take (the places that no value speaks of) is left open. Definitions only.
 use mathlib.Core.List.{List}
 use lib.IntN.{ℤ}
+use Rattle.clipping_predictor.specs.declared.settings.ClippingPredictorConfig.{ClippingPredictorConfig}
 use Rattle.mono_input_volume_controller.specs.declared.config.Config.{Config}
 use Rattle.input_volume_controller.specs.declared.InputVolumeController.{InputVolumeController}
 use Rattle.input_volume_controller.specs.declared.Created.{Created}
-use Rattle.input_volume_controller.specs.Controller.{Good, CreatedOf}
+use Rattle.input_volume_controller.specs.Controller.{Good, CreatedWith}
 use Rattle.input_volume_controller.specs.Calls.{Call, Answer, Typed}
 use Rattle.claims.specs.Run.{Run}
 use Rattle.claims.specs.Every.{Every}
@@ -17,11 +18,11 @@ pub record HasRun (c : InputVolumeController) (calls : List Call) : Type 0 where
   pub run : Run c calls heard last
 
 -- what a making hands back
-pub record HasMaking (channels : ℤ) (config : Config) : Type 0 where
+pub record HasMaking (channels : ℤ) (config : Config) (predictor : ClippingPredictorConfig) : Type 0 where
   pub made : Created
-  pub created : CreatedOf channels config made
+  pub created : CreatedWith channels config predictor made
 
 -- THE CLAIM
 pub record RunsExist : Type 0 where
-  pub makings : (channels : ℤ) (config : Config) → HasMaking channels config
+  pub makings : (channels : ℤ) (config : Config) (predictor : ClippingPredictorConfig) → HasMaking channels config predictor
   pub runs : (c : InputVolumeController) (calls : List Call) → Good c → Every Typed calls → HasRun c calls

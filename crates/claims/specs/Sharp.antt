@@ -2,22 +2,27 @@
 use mathlib.Core.Path.{_≡_}
 use mathlib.Core.Bool.{Bool, true, false, not}
 use mathlib.Core.List.{List}
-use Prim.Native.Nat.{ℕ, _-_}
-use lib.IntN.{ℤ, pos}
+use Prim.Native.Nat.{ℕ, _-_, _≤_}
+use lib.Dec.{T}
+use lib.IntN.{ℤ, pos, negsuc}
+use lib.Signed.{ltZ, leZ}
 use lib.Ieee.{Float}
 use lib.ListN.{length}
+use Rattle.clipping_predictor.specs.declared.settings.ClippingPredictorMode.{ClippingPredictorMode}
+use Rattle.clipping_predictor.specs.declared.settings.ClippingPredictorConfig.{ClippingPredictorConfig}
 use Rattle.clipping_predictor.specs.declared.settings.Settings as Predictor
+use Rattle.clipping_predictor.specs.Settings.{configOf}
 use Rattle.clipping_predictor.specs.Settings as Predictors
 use Rattle.mono_input_volume_controller.specs.declared.config.Config.{Config}
 use Rattle.mono_input_volume_controller.specs.declared.config.Settings.{Settings}
-use Rattle.mono_input_volume_controller.specs.declared.config.Checked.the-variants.{InOrder}
-use Rattle.mono_input_volume_controller.specs.Config.{defaults, settingsOf}
-use Rattle.input_volume_controller.specs.Controller.{Controller, freshWith, fresh}
+use Rattle.mono_input_volume_controller.specs.Config.{defaults, settingsFrom}
+use Rattle.input_volume_controller.specs.Controller.{Controller, basePredictor, freshWith, fresh, makingWith}
 use Rattle.input_volume_controller.specs.Reply.{Reply, mark, refusal, volume, none, done}
 use Rattle.input_volume_controller.specs.Calls.{frame, step}
 use Rattle.claims.specs.Past.{isAccepted}
-use Rattle.claims.specs.LeadIn.{acceptedIn, quiet, quietFor, LeadIn, callsOf}
+use Rattle.claims.specs.LeadIn.{acceptedIn, quiet, comparedIn, quietFor, LeadIn, callsOf}
 use Rattle.claims.specs.TwoPasts.{AlikeAfter, RatioFromZero, enough, enoughFor}
+use Rattle.claims.specs.Made.{MayBeCompared, quietIn, enoughIn}
 
 abbrev pub isRefusal : Reply → Bool
 isRefusal (mark near) = false
@@ -32,9 +37,20 @@ AcceptedIsNotRefused =
     (c : Controller) (volume : ℤ) (samples : ℕ) (lent : List Float)
     → isRefusal (step c (frame volume samples lent) .reply) ≡ not (isAccepted (length (c .control .channels)) volume samples lent)
 
--- for all settings and every channel count there is a lead-in with exactly as many accepted frames as the claim asks
-abbrev pub LeadInsExist : Type 0
-LeadInsExist = (s : Settings) (channels : ℕ) → (l : LeadIn channels quiet (enough s)) × (acceptedIn channels (l .body) ≡ enough s)
+-- a lead-in with exactly as many accepted frames
+abbrev pub LeadInOf : ℕ → (ℕ → List Float → Bool) → ℕ → Type 0
+LeadInOf channels isStill frames = (l : LeadIn channels isStill frames) × (acceptedIn channels (l .body) ≡ frames)
+
+-- the level of silence, the least that there is
+abbrev pub silent : ℤ
+silent = negsuc 90309
+
+-- for all settings and every channel count there is a lead-in with exactly as many accepted frames as the claim asks; and so for every predictor whose threshold silence does not pass. Where it does, no frame
+-- is quiet, and the claim says nothing
+pub record LeadInsExist : Type 0 where
+  pub own : (s : Settings) (channels : ℕ) → LeadInOf channels quiet (enough s)
+  pub in-every-mode : (p : Predictor.Settings) (s : Settings) (channels : ℕ) → T (leZ silent (comparedIn (p .mode) (p .threshold))) → LeadInOf channels (quietFor p channels) (enoughFor p s)
+  pub none-below : (p : Predictor.Settings) (channels samples : ℕ) (lent : List Float) → 1 ≤ channels → T (ltZ (comparedIn (p .mode) (p .threshold)) silent) → quietFor p channels samples lent ≡ false
 
 -- the frame after the initialise is quiet and enters the rings too, so with one accepted frame fewer before it the claim holds as well, and so does its general form
 pub record OneFewerIsEnough : Type 0 where
@@ -58,14 +74,25 @@ waiting wait = record {
   «speech_ratio_threshold» = defaults .«speech_ratio_threshold»;
 }
 
--- with these settings, which the making takes, two accepted frames fewer do not do: the same claim is false
-pub record TooFewWith (config : Config) : Type 0 where
-  pub settings : Settings
-  pub made : settingsOf config ≡ InOrder settings
-  pub ratio : RatioFromZero settings
-  pub refuted : ((l : LeadIn 1 quiet (enough settings - 2)) → AlikeAfter (fresh settings 1) (callsOf 1 quiet l)) → ⊥
+-- with these settings and this predictor, which the making takes, two accepted frames fewer do not do: the same claim is false
+pub record TooFewWith (config : Config) (predictor : ClippingPredictorConfig) (isStill : ℕ → List Float → Bool) (least : ℕ) : Type 0 where
+  pub made : MayBeCompared 1 config predictor
+  pub refuted : ((l : LeadIn 1 isStill (least - 2)) → AlikeAfter (makingWith (pos 1) config predictor .controller) (callsOf 1 isStill l)) → ⊥
 
--- both where 14 is the larger, and where the clipping wait plus 4 is: with no wait, and with the default one
+-- with the base's predictor
+abbrev pub TooFewByDefault : Config → Type 0
+TooFewByDefault config = TooFewWith config basePredictor quiet (enough (settingsFrom config))
+
+-- a small predictor of any mode
+abbrev pub small : ClippingPredictorMode → ClippingPredictorConfig
+small mode = configOf true mode (pos 2) (pos 3) (pos 1) (negsuc 999) (pos 1000)
+
+abbrev pub TooFewInMode : ClippingPredictorMode → Config → Type 0
+TooFewInMode mode config = let new = makingWith (pos 1) config (small mode) .controller in TooFewWith config (small mode) (quietIn new 1) (enoughIn new)
+
+-- both where the windows' number is the larger (14; 5), and where the clipping wait's is (304; 11)
 pub record TwoFewerAreTooFew : Type 0 where
-  pub with-no-wait : TooFewWith (waiting 0)
-  pub by-default : TooFewWith (waiting 300)
+  pub with-no-wait : TooFewByDefault (waiting 0)
+  pub by-default : TooFewByDefault (waiting 300)
+  pub in-every-mode : (mode : ClippingPredictorMode) → TooFewInMode mode (waiting 0)
+  pub in-every-mode-with-a-wait : (mode : ClippingPredictorMode) → TooFewInMode mode (waiting 10)

@@ -1,6 +1,7 @@
--- Document 01, "All channels": the controller over its channels as a value, with its rings as lists; its making, with causes 1 to 6; its good order. Definitions only.
+-- Document 01, "All channels", and document 02 (iv): the controller over its channels as a value, with its rings as lists; its making with any predictor, with causes 1 to 6 and then 7, 14 and 15; its good
+-- order. Definitions only.
 use mathlib.Core.Path.{_≡_}
-use mathlib.Core.Bool.{Bool, true}
+use mathlib.Core.Bool.{Bool, true, false}
 use Prim.Native.Nat.{ℕ}
 use lib.IntN.{ℤ, pos, negsuc}
 use lib.ListN.{replicate}
@@ -16,7 +17,10 @@ use Rattle.clipping_predictor.specs.declared.settings.ClippingPredictorMode.the
 use Rattle.clipping_predictor.specs.declared.settings.ClippingPredictorConfig.{ClippingPredictorConfig}
 use Rattle.clipping_predictor.specs.declared.ClippingPredictor.{ClippingPredictor}
 use Rattle.clipping_predictor.specs.declared.settings.Settings as Predictor
+use Rattle.clipping_predictor.specs.declared.settings.Checked as PredictorCheck
+use Rattle.clipping_predictor.specs.declared.settings.Checked.the-variants as PredictorChecked
 use Rattle.clipping_predictor.specs.Settings.{configOf}
+use Rattle.clipping_predictor.specs.Settings as PredictorSettings
 use Rattle.clipping_predictor.specs.Predictor.{maxChannels, Predictor, emptyPredictor}
 use Rattle.clipping_predictor.specs.Predictor as PredictorOf
 use Rattle.mono_input_volume_controller.specs.declared.config.Config.{Config}
@@ -55,7 +59,7 @@ pub record Becomes (said : Controller) (r : InputVolumeController) : Type 0 wher
   pub good : Good r
   pub is : viewOf r ≡ said
 
--- ---- making: causes 1 to 6
+-- ---- the predictor's configuration
 
 -- "Its predictor is adaptive, windows 5, 5, 5, threshold -1,000, margin 3,000, or off"
 abbrev pub predictorSettings : Bool → Predictor.Settings
@@ -69,11 +73,17 @@ predictorSettings on = record {
   margin = pos 3000;
 }
 
--- the configuration that makes it
-abbrev pub predictorConfig : Bool → ClippingPredictorConfig
-predictorConfig on =
-    let p = predictorSettings on in
+-- "The base's predictor stays the default": the configuration that makes it, the source's `ClippingPredictorConfig::default`
+abbrev pub basePredictor : ClippingPredictorConfig
+basePredictor =
+    let p = predictorSettings false in
     configOf (p .enabled) (p .mode) (pos (p .window)) (pos (p .reference)) (pos (p .delay)) (p .threshold) (p .margin)
+
+-- any configuration, with a switch from elsewhere
+abbrev pub switched : Bool → ClippingPredictorConfig → ClippingPredictorConfig
+switched on c = configOf on (c .mode) (c .«window_length») (c .«reference_window_length») (c .«reference_window_delay») (c .«clipping_threshold») (c .«crest_factor_margin»)
+
+-- ---- fresh controllers
 
 -- the count of frames since clipping stands at the wait, so that the first frame is tested
 abbrev pub freshControl : Settings → ℕ → Control
@@ -87,12 +97,14 @@ freshControl s channels = record {
   controlling = 0;
 }
 
--- a fresh controller with any predictor, and with its own
+-- a fresh controller with any predictor, and with the base's
 abbrev pub freshWith : Predictor.Settings → Settings → ℕ → Controller
 freshWith predictor s channels = record { control = freshControl s channels; predictor = emptyPredictor predictor channels }
 
 abbrev pub fresh : Settings → ℕ → Controller
 fresh s channels = freshWith (predictorSettings (s .predicts)) s channels
+
+-- ---- making: causes 1 to 6, and then 7, 14 and 15
 
 pub record Making : Type 0 where
   pub answer : Outcome
@@ -102,23 +114,35 @@ pub record Making : Type 0 where
 abbrev pub unmade : Refusal → Making
 unmade cause = record { answer = Refused cause; controller = fresh (settingsFrom defaults) 1 }
 
--- the channel count is tested first
-unfoldable pub madeOf : Natural → Checked → Making
-madeOf Outside settings = unmade ChannelCount
-madeOf (Number channels) (Checked.Refused cause) = unmade cause
-madeOf (Number channels) (Checked.InOrder s) = record { answer = Accepted; controller = fresh s channels }
+-- "It refuses faults of windows, threshold or margin as a predictor's making does"
+unfoldable pub madeWith : ℕ → Settings → PredictorCheck.Checked → Making
+madeWith channels s (PredictorChecked.Refused cause) = unmade cause
+madeWith channels s (PredictorChecked.InOrder p) = record { answer = Accepted; controller = freshWith p s channels }
 
-unfoldable pub makingOf : ℤ → Config → Making
+-- the channel count is tested first, then the settings, then the predictor: "after number 6 and also with the predictor off". The switch is the one of the settings
+unfoldable pub madeOf : Natural → Checked → ClippingPredictorConfig → Making
+unfolding madeWith
+madeOf Outside settings predictor = unmade ChannelCount
+madeOf (Number channels) (Checked.Refused cause) predictor = unmade cause
+madeOf (Number channels) (Checked.InOrder s) predictor = madeWith channels s (PredictorSettings.settingsOf (switched (s .predicts) predictor))
+
+-- "The controller takes any of the three modes with its own windows, threshold and margin"
+unfoldable pub makingWith : ℤ → Config → ClippingPredictorConfig → Making
 unfolding madeOf
-makingOf channels config = madeOf (withinOf 1 maxChannels channels) (settingsOf config)
+makingWith channels config predictor = madeOf (withinOf 1 maxChannels channels) (settingsOf config) predictor
 
--- what the private function of a refused making says
-pub record RefusedWith (cause : Refusal) (r : Created) : Type 0 where
-  pub good : Good (r .controller)
-  pub answer : r .answer ≡ Refused cause
-  pub view : viewOf (r .controller) ≡ fresh (settingsFrom defaults) 1
+-- with the base's predictor
+abbrev pub makingOf : ℤ → Config → Making
+makingOf channels config = makingWith channels config basePredictor
 
-pub record CreatedOf (channels : ℤ) (config : Config) (r : Created) : Type 0 where
+-- what the contracts of the makings say: r is the making, in good order
+pub record CreatedAs (making : Making) (r : Created) : Type 0 where
   pub good : Good (r .controller)
-  pub answer : outcomeSays (r .answer) ≡ outcomeSays (makingOf channels config .answer)
-  pub view : viewOf (r .controller) ≡ makingOf channels config .controller
+  pub answer : outcomeSays (r .answer) ≡ outcomeSays (making .answer)
+  pub view : viewOf (r .controller) ≡ making .controller
+
+abbrev pub CreatedWith : ℤ → Config → ClippingPredictorConfig → Created → Type 0
+CreatedWith channels config predictor r = CreatedAs (makingWith channels config predictor) r
+
+abbrev pub CreatedOf : ℤ → Config → Created → Type 0
+CreatedOf channels config r = CreatedWith channels config basePredictor r

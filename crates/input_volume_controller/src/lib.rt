@@ -8,7 +8,8 @@ ghost use lib.ListN.{getD};
 ghost use Rattle.clipping_predictor_level_buffer.specs.Ring.{storedSays, storedAt};
 ghost use Rattle.clipping_predictor.specs.Predictor.{maxChannels};
 ghost use Rattle.mono_input_volume_controller.specs.Config.{Good as GoodSettings};
-ghost use Rattle.input_volume_controller.specs.Controller.{viewOf, Good, Becomes, predictorConfig, fresh, RefusedWith, CreatedOf};
+ghost use Rattle.clipping_predictor.specs.Settings.{settingsOf as predictorSettingsOf};
+ghost use Rattle.input_volume_controller.specs.Controller.{viewOf, Good, basePredictor, switched, unmade, madeWith, CreatedAs, CreatedWith, CreatedOf};
 ghost use Rattle.input_volume_controller.specs.Reply.{done, recommendationSays};
 ghost use Rattle.input_volume_controller.specs.Calls.{recommendation, initialise, captureSwitch, Does, AnalyzedOf};
 pub use crate::volume_control::VolumeControl;
@@ -73,12 +74,12 @@ pub struct Recommended {
     pub controller: InputVolumeController,
 }
 
-// The settings of the controller's own predictor.
-fn predictor_config(on: bool) -> ClippingPredictorConfig
-    ensures { λ r. ⌜ r ≡ predictorConfig on ⌝ }
+// The base's predictor: the source's `ClippingPredictorConfig::default`, which `new` takes.
+pub fn default_predictor_config() -> ClippingPredictorConfig
+    ensures { λ r. ⌜ r ≡ basePredictor ⌝ }
 {
     ClippingPredictorConfig {
-        enabled: on,
+        enabled: false,
         mode: ClippingPredictorMode::AdaptiveStepClippingPeakPrediction,
         window_length: 5,
         reference_window_length: 5,
@@ -88,31 +89,70 @@ fn predictor_config(on: bool) -> ClippingPredictorConfig
     }
 }
 
-fn fresh(channels: usize, s: Settings) -> InputVolumeController
-    requires { ⌜ (1 ≤ channels) × (channels ≤ maxChannels) × GoodSettings s ⌝ }
-    ensures { λ r. ⌜ Becomes (fresh s channels) r ⌝ }
+// The settings switch a predictor on and off; what its own configuration says is not looked at.
+fn switched(on: bool, c: ClippingPredictorConfig) -> ClippingPredictorConfig
+    ensures { λ r. ⌜ r ≡ switched on c ⌝ }
 {
-    let made = create_clipping_predictor(channels as i32, predictor_config(s.predicts));
+    let mut predictor = c;
+    predictor.enabled = on;
+    predictor
+}
+
+// One channel, the default settings, and the base's predictor.
+fn refused(cause: Refusal) -> Created
+    ensures { λ r. ⌜ CreatedAs (unmade cause) r ⌝ }
+{
+    let s = mono_input_volume_controller::config::default_settings();
+    let made = create_clipping_predictor(1, switched(s.predicts, default_predictor_config()));
     let predictor = made.predictor;
-    InputVolumeController {
-        control: fresh_control(channels, s),
-        predictor,
+    Created {
+        answer: Outcome::Refused(cause),
+        controller: InputVolumeController {
+            control: fresh_control(1, s),
+            predictor,
+        },
     }
 }
 
-fn refused(cause: Refusal) -> Created
-    ensures { λ r. ⌜ RefusedWith cause r ⌝ }
+// Settings and a channel count that were tested, and a predictor that is tested here, whether it is on or off: causes 7, 14 and 15.
+fn made(channels: usize, s: Settings, predictor: ClippingPredictorConfig) -> Created
+    requires { ⌜ (1 ≤ channels) × (channels ≤ maxChannels) × GoodSettings s ⌝ }
+    ensures { λ r. ⌜ CreatedAs (madeWith channels s (predictorSettingsOf (switched (s .predicts) predictor))) r ⌝ }
 {
-    Created {
-        answer: Outcome::Refused(cause),
-        controller: fresh(1, mono_input_volume_controller::config::default_settings()),
+    let tested = create_clipping_predictor(channels as i32, switched(s.predicts, predictor));
+    let answer = tested.answer;
+    let rings = tested.predictor;
+    match answer {
+        Outcome::Refused(cause) => refused(cause),
+        Outcome::Accepted => Created {
+            answer: Outcome::Accepted,
+            controller: InputVolumeController {
+                control: fresh_control(channels, s),
+                predictor: rings,
+            },
+        },
     }
 }
 
 impl InputVolumeController {
-    // Tests causes 1 to 6, in that order.
+    // With the base's predictor. Tests causes 1 to 6, in that order.
     pub fn new(num_capture_channels: i32, config: Config) -> Created
         ensures { λ r. ⌜ CreatedOf «num_capture_channels» config r ⌝ }
+    {
+        InputVolumeController::with_predictor(
+            num_capture_channels,
+            config,
+            default_predictor_config(),
+        )
+    }
+
+    // With a predictor of any mode. Tests causes 1 to 6 and then, with the predictor off too, 7, 14 and 15. The switch is the one of the settings.
+    pub fn with_predictor(
+        num_capture_channels: i32,
+        config: Config,
+        predictor: ClippingPredictorConfig,
+    ) -> Created
+        ensures { λ r. ⌜ CreatedWith «num_capture_channels» config predictor r ⌝ }
     {
         let count = numbers::natural::within(1, MAX_CHANNELS, num_capture_channels);
         let Natural::Number(channels) = count else {
@@ -121,10 +161,7 @@ impl InputVolumeController {
         let checked = mono_input_volume_controller::config::check(config);
         match checked {
             Checked::Refused(cause) => refused(cause),
-            Checked::InOrder(settings) => Created {
-                answer: Outcome::Accepted,
-                controller: fresh(channels, settings),
-            },
+            Checked::InOrder(settings) => made(channels, settings, predictor),
         }
     }
 

@@ -40,7 +40,7 @@ pub struct PlainPredictor {
     pub enabled: u32,
 }
 
-fn mode_of(n: u32) -> ClippingPredictorMode
+pub fn mode_of(n: u32) -> ClippingPredictorMode
     ensures { λ r. ⌜ r ≡ modeOf n ⌝ }
 {
     if n == 0 {
@@ -52,7 +52,7 @@ fn mode_of(n: u32) -> ClippingPredictorMode
     ClippingPredictorMode::FixedStepClippingPeakPrediction
 }
 
-fn mode_number(mode: ClippingPredictorMode) -> u32
+pub fn mode_number(mode: ClippingPredictorMode) -> u32
     ensures { λ r. ⌜ r ≡ modeNumber mode ⌝ }
 {
     match mode {

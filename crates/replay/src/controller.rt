@@ -1,9 +1,11 @@
 // The lines of the controller: made, frames, recommendations, initialises, capture switches, and what it holds. Each call's answer has the controller's volume behind it, or all of
 // its state.
 ghost use Rattle.input_volume_controller.specs.Controller.{Good};
+use crate::predictor;
 use crate::print;
 use crate::state;
 use crate::text;
+use input_volume_controller::Created;
 use input_volume_controller::InputVolumeController;
 use mono_input_volume_controller::config::Config;
 use mono_input_volume_controller::config::default_config;
@@ -43,22 +45,27 @@ fn accepted(c: InputVolumeController, full: bool) -> InputVolumeController
 }
 
 // A refused making leaves the controller that was there.
-fn made(
-    old: InputVolumeController,
-    channels: i32,
-    config: Config,
-    full: bool,
-) -> InputVolumeController
-    requires { ⌜ Good old ⌝ }
+fn made(old: InputVolumeController, created: Created, full: bool) -> InputVolumeController
+    requires { ⌜ Good old × Good (created .controller) ⌝ }
     ensures { λ r. ⌜ Good r ⌝ }
 {
-    let created = InputVolumeController::new(channels, config);
     let answer = created.answer;
     if !print::accepted(answer) {
         return old;
     }
     let controller = created.controller;
     accepted(controller, full)
+}
+
+// The predictor's fields stand behind the settings, of which the last has number 11. The switch is the one of the settings.
+fn with_predictor(s: &[u8]) -> Created
+    ensures { λ r. ⌜ Good (r .controller) ⌝ }
+{
+    InputVolumeController::with_predictor(
+        text::number(s, 0),
+        config(s),
+        predictor::config(s, false, 12),
+    )
 }
 
 // How many samples a channel has: so many as stand before the floats, or its share of the floats.
@@ -127,7 +134,12 @@ pub fn answer(letter: u8, c: InputVolumeController, s: &[u8], full: bool) -> Inp
     ensures { λ r. ⌜ Good r ⌝ }
 {
     match letter {
-        b'N' => made(c, text::number(s, 0), config(s), full),
+        b'N' => made(
+            c,
+            InputVolumeController::new(text::number(s, 0), config(s)),
+            full,
+        ),
+        b'K' => made(c, with_predictor(s), full),
         b'A' => framed(c, s, 1, full),
         b'B' => framed(c, s, 2, full),
         b'R' => recommended(c, text::float(s, 0), speech_level(s), full),

@@ -11,6 +11,7 @@
 //     F floats   X                      a frame of all channels; emptied
 //     E channel level step least most   an estimate, with an `n` behind it where it is near
 //     N channels and the eleven settings   a controller: made
+//     K the same, then mode window reference delay threshold margin   a controller with a predictor of any mode: made
 //     A volume floats   B volume samples floats   a frame; a frame that says how many samples a channel has
 //     R probability level   I   C switch   D   a recommendation; initialise; the capture switch; all records
 //     V                                 from here on, all of the controller's state after each of its calls

@@ -32,15 +32,17 @@ fn mode(n: i32) -> ClippingPredictorMode {
     }
 }
 
-fn config(s: &[u8]) -> ClippingPredictorConfig {
+// The mode stands in the first of six fields.
+pub fn config(s: &[u8], enabled: bool, first: u8) -> ClippingPredictorConfig {
+    let field = first as usize;
     ClippingPredictorConfig {
-        enabled: text::number(s, 1) == 1,
-        mode: mode(text::number(s, 2)),
-        window_length: text::number(s, 3),
-        reference_window_length: text::number(s, 4),
-        reference_window_delay: text::number(s, 5),
-        clipping_threshold: text::number(s, 6),
-        crest_factor_margin: text::number(s, 7),
+        enabled,
+        mode: mode(text::number(s, field)),
+        window_length: text::number(s, field + 1),
+        reference_window_length: text::number(s, field + 2),
+        reference_window_delay: text::number(s, field + 3),
+        clipping_threshold: text::number(s, field + 4),
+        crest_factor_margin: text::number(s, field + 5),
     }
 }
 
@@ -113,7 +115,11 @@ pub fn answer(letter: u8, predictor: ClippingPredictor, s: &[u8]) -> ClippingPre
     ensures { λ r. ⌜ Good r ⌝ }
 {
     match letter {
-        b'P' => made(predictor, text::number(s, 0), config(s)),
+        b'P' => made(
+            predictor,
+            text::number(s, 0),
+            config(s, text::number(s, 1) == 1, 2),
+        ),
         b'F' => analyzed(predictor, s),
         b'X' => emptied(predictor),
         b'E' => estimated(predictor, s),

@@ -1,88 +1,26 @@
--- `InputVolumeController::new` meets its contract: the channel count is tested first, and then the settings. Assumes nothing.
-use mathlib.Core.Path.{_≡_, refl, sym, ap, ap₂, _∙_}
-use Rattle.numbers.specs.declared.natural.Natural.{Natural}
-use Rattle.numbers.specs.declared.natural.Natural.the-variants.{Number}
-use Rattle.numbers.specs.Natural.{withinOf}
-use Rattle.numbers.specs.Said.{outcomeSays}
-use Rattle.numbers.proofs.Signs.{read, again}
-use Rattle.numbers.proofs.Ranges.{told}
-use Rattle.clipping_predictor.specs.Predictor.{maxChannels}
-use Rattle.mono_input_volume_controller.specs.declared.config.Checked.{Checked}
-use Rattle.mono_input_volume_controller.specs.Config.{settingsOf}
-use Rattle.input_volume_controller.specs.Controller.{Making, madeOf, makingOf}
-use Rattle.mono_input_volume_controller.proofs.Checked.{checked-good}
-use Rattle.mono_input_volume_controller.proofs.Says.{checked-fixed}
+-- `InputVolumeController::new` meets its contract: it is the making with the base's predictor. Assumes nothing.
+use mathlib.Core.Path.{subst}
+use lib.IntN.{ℤ}
+use Rattle.numbers.proofs.Signs.{again}
+use Rattle.clipping_predictor.specs.declared.settings.ClippingPredictorConfig.{ClippingPredictorConfig}
+use Rattle.input_volume_controller.specs.Controller.{CreatedWith}
 use borrow.Author.Needs.{needs}
 use Rattle.input_volume_controller.proofs.InputVolumeController.new.Statement.{statement}
 use Rattle.input_volume_controller.proofs.InputVolumeController.new.Tie as tie
 
--- the making, from what the two tests say; the channel count is the one that the machine reads back
-of-parts : (s : tie.Start) (a : Natural) (b : Checked) → withinOf 1 maxChannels (read (s .args .num-capture-channels)) ≡ a → settingsOf (s .args .config) ≡ b → makingOf (s .args .num-capture-channels) (s .args .config) ≡ madeOf a b
-unfolding makingOf
-of-parts s a b p q = ap₂ madeOf (sym (ap (withinOf 1 maxChannels) (again (s .args .num-capture-channels) (s .fits .num-capture-channels .sfits))) ∙ p) q
+default-predictor-config-requires : tie.Need-default-predictor-config-requires
+default-predictor-config-requires c κs = search needs
 
-count-is : (c : tie.After-count) → withinOf 1 maxChannels (read (c .before .before .before .args .num-capture-channels)) ≡ Number (c .count .given .0 .0)
-count-is c = sym (c .before .before .within .ensures) ∙ c .count .given .1
-
-checked-is : (c : tie.After-check) → c .check .result ≡ settingsOf (c .before .before .before .before .before .args .config)
-checked-is c = checked-fixed (c .check .result) (settingsOf (c .before .before .before .before .before .args .config)) (c .check .ensures)
-
-within-requires : tie.Need-within-requires
-within-requires c κs = search needs
-
-enum-known-count : tie.Need-enum-known-count
-enum-known-count c = search needs
-
-enum-told : tie.Need-enum-told
-enum-told c = search needs
-
-refused-requires : tie.Need-refused-requires
-refused-requires c κs = search needs
+with-predictor-requires : tie.Need-with-predictor-requires
+with-predictor-requires c κs = search needs
 
 returns : tie.Need-returns
-unfolding madeOf
 returns c =
-    let w = c .before .before .before in
-    let s = w .before in
-    let e = of-parts s _ (settingsOf (s .args .config)) (sym (w .within .ensures) ∙ c .before .enum-told .given .1) refl in
-    let r = c .refused .ensures in
-    record { good = r .good; answer = ap outcomeSays (r .answer ∙ sym (ap (λ (m : Making). m .answer) e)); view = r .view ∙ sym (ap (λ (m : Making). m .controller) e) }
-
-check-requires : tie.Need-check-requires
-check-requires c κs = search needs
-
-enum-known-checked : tie.Need-enum-known-checked
-enum-known-checked c = search needs
-
-refused-requires-2 : tie.Need-refused-requires-2
-refused-requires-2 c κs = search needs
-
-enum-known-checked-2 : tie.Need-enum-known-checked-2
-enum-known-checked-2 c = search needs
-
-fresh-requires : tie.Need-fresh-requires
-fresh-requires c κs =
-    let k = c .before .before .before in
-    let t = told 1 maxChannels _ _ (count-is (k .before .before)) in
-    (t .least, t .most, checked-good _ _ (sym (checked-is k) ∙ c .before .checked2 .given .1))
-
-returns-2 : tie.Need-returns-2
-unfolding madeOf
-returns-2 c =
-    let k = c .before .before .before .before in
-    let n = k .before .before in
-    let e = of-parts (n .before .before .before) _ _ (count-is n) (sym (checked-is k) ∙ c .before .before .checked .given .1) in
-    let r = c .refused2 .ensures in
-    record { good = r .good; answer = ap outcomeSays (r .answer ∙ sym (ap (λ (m : Making). m .answer) e)); view = r .view ∙ sym (ap (λ (m : Making). m .controller) e) }
-
-returns-3 : tie.Need-returns-3
-unfolding madeOf
-returns-3 c =
-    let k = c .before .before .before .before in
-    let n = k .before .before in
-    let e = of-parts (n .before .before .before) _ _ (count-is n) (sym (checked-is k) ∙ c .before .before .checked2 .given .1) in
-    let r = c .fresh .ensures in
-    record { good = r .good; answer = ap outcomeSays (sym (ap (λ (m : Making). m .answer) e)); view = r .is ∙ sym (ap (λ (m : Making). m .controller) e) }
+    let d = c .before in
+    let s = d .before in
+    let r = c .with-predictor .result in
+    subst (λ (p : ClippingPredictorConfig). CreatedWith (s .args .num-capture-channels) (s .args .config) p r) (d .default-predictor-config .ensures)
+    (subst (λ (n : ℤ). CreatedWith n (s .args .config) (d .default-predictor-config .result) r) (again (s .args .num-capture-channels) (s .fits .num-capture-channels .sfits)) (c .with-predictor .ensures))
 
 pub new-spec : {M : Type 1} → statement M
-new-spec = tie.close (tie.spec within-requires enum-known-count enum-told refused-requires returns check-requires enum-known-checked refused-requires-2 enum-known-checked-2 fresh-requires returns-2 returns-3)
+new-spec = tie.close (tie.spec default-predictor-config-requires with-predictor-requires returns)
