@@ -17,7 +17,7 @@
  * must be one that agc2_new or agc2_new_with_predictor accepted and that nobody else wrote to. A controller has no pointer in it and may be copied and moved; two threads must not use one at once.
  * The proofs take floats to work as they do by default: rounded to nearest, with no subnormal number flushed to zero.
  *
- * The stack that a call needs, as measured with clang and gcc at -O0 and -O2: 15 KB for a frame, 9.8 KB for agc2_new and agc2_stored_record, 1.9 KB for any other (bindings/c/stack.c); where memcpy
+ * The stack that a call needs, as measured with clang and gcc at -O0 and -O2: 15 KB for a frame, 9.8 KB for a making and agc2_stored_record, 1.9 KB for any other (bindings/c/stack.c); where memcpy
  * is bound late, the first call needs 3 KB more. */
 #ifndef AGC2_H
 #define AGC2_H
@@ -142,23 +142,20 @@ agc2_record agc2_stored_record_by_value(agc2_controller controller, size_t chann
 
 /* ---- the calls */
 
-/* A controller of 1 to 8 channels, or a refusal, 1 to 6, which leaves *controller unwritten. Its predictor, if it is on, is the original's. */
-static inline uint32_t agc2_new(agc2_controller *controller, int32_t num_capture_channels, agc2_config config) {
-    agc2_controller made = agc2_new_by_value(num_capture_channels, config);
-    if (made.refusal == AGC2_ACCEPTED) {
-        *controller = made;
-    }
-    return made.refusal;
-}
-
-/* The same with a predictor of any mode, and its own windows, threshold and margin. Of the refusals 1 to 6 come first, and then 7, 14 and 15, whether the predictor is on or off: window and
- * reference at least 1 frame, the delay of the reference at least 0, delay + reference above the window (7) and at most 64 (14), threshold and margin from -200,000 to 200,000 (15). */
+/* A controller of 1 to 8 channels with a predictor of any mode, and its own windows, threshold and margin; or a refusal, which leaves *controller unwritten. First come 1 to 6, and then, whether the
+ * predictor is on or off, 7, 14 and 15: window and reference are at least 1 frame, the delay of the reference is at least 0, delay + reference above the window (7) and at most 64 (14), threshold and
+ * margin are from -200,000 to 200,000 (15). */
 static inline uint32_t agc2_new_with_predictor(agc2_controller *controller, int32_t num_capture_channels, agc2_config config, agc2_predictor_config predictor) {
     agc2_controller made = agc2_new_with_predictor_by_value(num_capture_channels, config, predictor);
     if (made.refusal == AGC2_ACCEPTED) {
         *controller = made;
     }
     return made.refusal;
+}
+
+/* The same with the original's predictor. Refuses with 1 to 6. */
+static inline uint32_t agc2_new(agc2_controller *controller, int32_t num_capture_channels, agc2_config config) {
+    return agc2_new_with_predictor(controller, num_capture_channels, config, agc2_default_predictor_config());
 }
 
 /* Starts anew, with capture on, but keeps the rings, the startup, the volumes and the wait after clipping. A recommendation is none then until a frame comes. */

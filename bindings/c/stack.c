@@ -15,6 +15,7 @@ static long depth;
 
 static agc2_controller controller;
 static agc2_config config;
+static agc2_predictor_config predictor;
 static float samples[AGC2_MAX_CHANNELS * AGC2_MAX_SAMPLES_PER_CHANNEL];
 static int32_t channels, volume, recommended;
 static size_t samples_per_channel;
@@ -24,6 +25,8 @@ static volatile uint32_t sink;
 /* ---- the calls */
 
 __attribute__((noinline)) static void made(void) { sink = agc2_new(&controller, channels, config); }
+
+__attribute__((noinline)) static void made_with(void) { sink = agc2_new_with_predictor(&controller, channels, config, predictor); }
 
 __attribute__((noinline)) static void framed(void) {
     sink = agc2_analyze_input_audio(&controller, volume, samples_per_channel, samples, (size_t)channels * AGC2_MAX_SAMPLES_PER_CHANNEL);
@@ -67,7 +70,7 @@ static void most(long *seen, call f) {
 
 /* ---- random calls */
 
-enum { NEW, FRAME, RECOMMEND, INITIALIZE, SWITCH, STORED, CALLS };
+enum { NEW, NEW_WITH, FRAME, RECOMMEND, INITIALIZE, SWITCH, STORED, CALLS };
 
 static void settings(void) {
     channels = 1 + rand() % AGC2_MAX_CHANNELS;
@@ -75,6 +78,12 @@ static void settings(void) {
     config.clipped_wait_frames = rand() % 3;
     config.update_input_volume_wait_frames = rand() % 4;
     config.enable_clipping_predictor = (uint32_t)(rand() % 5);
+    predictor = agc2_default_predictor_config();
+    predictor.mode = (uint32_t)(rand() % 4);
+    predictor.window_length = 1 + rand() % 5;
+    predictor.reference_window_length = 1 + rand() % 30;
+    predictor.reference_window_delay = rand() % 40;
+    predictor.clipping_threshold = -(rand() % 9000);
 }
 
 static void sound(void) {
@@ -89,14 +98,15 @@ static void sound(void) {
 }
 
 int main(void) {
-    static const char *const names[CALLS] = {"agc2_new", "a frame", "a recommendation", "initialise", "the capture switch", "agc2_stored_record"};
-    static const long bounds[CALLS] = {9800, 15000, 1900, 1900, 1900, 9800};
+    static const char *const names[CALLS] = {"agc2_new", "agc2_new_with_predictor", "a frame", "a recommendation", "initialise", "the capture switch", "agc2_stored_record"};
+    static const long bounds[CALLS] = {9800, 9800, 15000, 1900, 1900, 1900, 9800};
     long seen[CALLS] = {0};
     stack = aligned_alloc(4096, SIZE);
     srand(7);
     for (int round = 0; round < 100; round++) {
         settings();
         most(&seen[NEW], made);
+        most(&seen[NEW_WITH], made_with);
         for (int n = 0; n < 40; n++) {
             sound();
             most(&seen[FRAME], framed);

@@ -28,6 +28,7 @@ static void sizes_are_those_the_archive_states(void) {
     CHECK(l.controller_predictor == offsetof(agc2_controller, predictor));
     CHECK(l.config_size == sizeof(agc2_config));
     CHECK(l.record_size == sizeof(agc2_record));
+    CHECK(l.predictor_config_size == sizeof(agc2_predictor_config));
 }
 
 /* What lies below the stack's end is filled, so that a byte which a call copies from there unwritten is seen. */
@@ -41,6 +42,7 @@ __attribute__((noinline)) static void fill_stack(int with) {
 /* A large result is written through a pointer that is passed first. Called with that pointer in sight, a function shows what it writes:
  * every byte up to an end, each the same whatever stood there and on the stack before, and none from there on. */
 typedef void *(*creates)(void *result, int32_t num_capture_channels, agc2_config config);
+typedef void *(*creates_with)(void *result, int32_t num_capture_channels, agc2_config config, agc2_predictor_config predictor);
 typedef void *(*initializes)(void *result, agc2_control_state control);
 
 static _Alignas(8) unsigned char zeros[8192], ones[8192];
@@ -74,6 +76,14 @@ static void sizes_are_those_the_archive_writes(void) {
     create(zeros, 1, agc2_default_config());
     fill_stack(255);
     create(ones, 1, agc2_default_config());
+    CHECK(written() == sizeof(agc2_controller));
+
+    creates_with create_with = (creates_with)(void (*)(void))agc2_new_with_predictor_by_value;
+    before_writing();
+    fill_stack(0);
+    create_with(zeros, 1, agc2_default_config(), agc2_default_predictor_config());
+    fill_stack(255);
+    create_with(ones, 1, agc2_default_config(), agc2_default_predictor_config());
     CHECK(written() == sizeof(agc2_controller));
 
     before_writing();
@@ -259,6 +269,82 @@ static void refusals(void) {
     CHECK(agc2_analyze_input_audio(&c, 255, 480, frame, 960) == AGC2_ACCEPTED);
 }
 
+/* agc2_new is the making with the default predictor, byte for byte. */
+static void default_predictor(void) {
+    agc2_predictor_config p = agc2_default_predictor_config();
+    agc2_controller plain, with;
+    CHECK(p.mode == AGC2_ADAPTIVE_STEP_CLIPPING_PEAK_PREDICTION && p.clipping_threshold == -1000 && p.crest_factor_margin == 3000);
+    CHECK(p.window_length == 5 && p.reference_window_length == 5 && p.reference_window_delay == 5);
+    for (uint32_t on = 0; on < 2; on++) {
+        agc2_config d = agc2_default_config();
+        d.enable_clipping_predictor = on;
+        CHECK(agc2_new(&plain, 3, d) == 0 && agc2_new_with_predictor(&with, 3, d, p) == 0);
+        CHECK(memcmp(&plain, &with, sizeof plain) == 0);
+    }
+}
+
+/* A ring of two records, and frames with the answers of an independent model: how many records are left, none after a prediction. */
+static void modes(void) {
+    static const struct {
+        uint32_t mode;
+        int32_t threshold;
+        uint32_t frames[2][4];
+        uint32_t left;
+    } cases[4] = {
+        {AGC2_CLIPPING_EVENT_PREDICTION, -3500, {{0x453b8000, 0x40e2ef57, 0xc11e1e16, 0x40d5329c}, {0xc6af74f7, 0xc61af31d, 0xc61af31d, 0x461af31d}}, 0},
+        {AGC2_CLIPPING_EVENT_PREDICTION, 999, {{0xc08fd108, 0xc0b2736c, 0x453b8000, 0x3f8a5b7d}, {0xc70401d9, 0xc66926db, 0xc66926db, 0x466926db}}, 2},
+        {AGC2_ADAPTIVE_STEP_CLIPPING_PEAK_PREDICTION, -2500, {{0xc0d765a4, 0xc05fd037, 0x4092a938, 0xc53b8000}, {0xc6c93ea0, 0x42303fab, 0xc2303fab, 0xc2303fab}}, 2},
+        {AGC2_FIXED_STEP_CLIPPING_PEAK_PREDICTION, 500, {{0x3ff50c5b, 0xc118b027, 0x3fc31acb, 0x453b8000}, {0xc7018d14, 0x45b8fd21, 0xc5b8fd21, 0xc5b8fd21}}, 0},
+    };
+    for (int i = 0; i < 4; i++) {
+        agc2_config d = agc2_default_config();
+        agc2_predictor_config p = {cases[i].mode, 1, 1, 1, cases[i].threshold, 1500};
+        agc2_controller c;
+        d.clipped_ratio_threshold = 2.0f;
+        d.clipped_wait_frames = 0;
+        d.clipped_level_step = 5;
+        CHECK(agc2_new_with_predictor(&c, 1, d, p) == 0);
+        for (int k = 0; k < 2; k++) {
+            float frame[4];
+            memcpy(frame, cases[i].frames[k], sizeof frame);
+            CHECK(agc2_analyze_input_audio(&c, 200, 4, frame, 4) == 0);
+        }
+        CHECK(agc2_stored_record(&c, 0, 0).present + agc2_stored_record(&c, 0, 1).present + agc2_stored_record(&c, 0, 2).present == cases[i].left);
+    }
+}
+
+/* After 1 to 6, and whether the predictor is on or off. */
+static void predictor_refusals(void) {
+    agc2_predictor_config p = agc2_default_predictor_config();
+    agc2_controller c, before;
+    memset(&c, 0x55, sizeof c);
+    memcpy(&before, &c, sizeof c);
+    for (uint32_t on = 0; on < 2; on++) {
+        agc2_config d = agc2_default_config();
+        d.enable_clipping_predictor = on;
+        p = agc2_default_predictor_config();
+        p.window_length = 10;
+        CHECK(agc2_new_with_predictor(&c, 1, d, p) == AGC2_PREDICTOR_WINDOWS);
+        CHECK(agc2_new_with_predictor(&c, 9, d, p) == AGC2_CHANNEL_COUNT);
+        d.speech_ratio_threshold = 2.0f;
+        CHECK(agc2_new_with_predictor(&c, 1, d, p) == AGC2_SPEECH_THRESHOLD);
+        d.speech_ratio_threshold = 0.5f;
+        p.window_length = 1;
+        p.reference_window_length = p.reference_window_delay = INT32_MAX;
+        CHECK(agc2_new_with_predictor(&c, 1, d, p) == AGC2_PREDICTOR_CAPACITY);
+        p = agc2_default_predictor_config();
+        p.clipping_threshold = -200001;
+        CHECK(agc2_new_with_predictor(&c, 1, d, p) == AGC2_PREDICTOR_LEVELS);
+    }
+    CHECK(memcmp(&c, &before, sizeof c) == 0);
+    CHECK(strcmp(agc2_words(AGC2_PREDICTOR_CAPACITY), "predictor delay + reference above 64") == 0);
+    p = agc2_default_predictor_config();
+    p.mode = UINT32_MAX;
+    CHECK(agc2_new_with_predictor(&c, 1, agc2_default_config(), p) == 0);
+    p.mode = AGC2_FIXED_STEP_CLIPPING_PEAK_PREDICTION;
+    CHECK(agc2_new_with_predictor(&before, 1, agc2_default_config(), p) == 0 && memcmp(&c, &before, sizeof c) == 0);
+}
+
 /* Any number but 0 is a yes. */
 static void flags(void) {
     static const float frame[4] = {0};
@@ -323,6 +409,9 @@ int main(void) {
     the_example();
     marks();
     refusals();
+    default_predictor();
+    modes();
+    predictor_refusals();
     flags();
     records();
     speech();

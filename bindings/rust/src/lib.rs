@@ -2,7 +2,7 @@
 //!
 //! [`InputVolumeController`] has the names and the meaning of aec3-rs's. What differs: an `AudioBuffer` is one slice, channels one after another,
 //! the experimental target is left out of the settings, and what the original asserts is answered with a [`Refusal`], which leaves the controller
-//! as it was.
+//! as it was. A controller may have a clipping predictor of any of the three modes ([`InputVolumeController::with_predictor`]); the original's has one.
 //!
 //! A frame is 10 ms of sound, at up to 48 kHz, as floats on the 16-bit scale, -32768 to 32767. Samples from -1.0 to 1.0 are all but silence on it
 //! and never clip.
@@ -22,15 +22,17 @@
 //! one, so no safe code can break that. The proofs take floats to work as they do by default, and as Rust does: rounded to nearest, with no
 //! subnormal number flushed to zero.
 //!
-//! The stack that a call needs, as measured: 16 KB for a frame, up to 15 KB for [`InputVolumeController::stored_record`] and up to 24 KB for a
+//! The stack that a call needs, as measured: 16 KB for a frame, up to 15 KB for [`InputVolumeController::stored_record`] and up to 25 KB for a
 //! making that goes into a box (both in a debug build), 3 KB for any other.
 #![warn(missing_docs)]
 
+mod predictor;
 mod raw;
 mod refusal;
 
 use std::fmt;
 
+pub use predictor::{ClippingPredictorConfig, ClippingPredictorMode};
 pub use refusal::Refusal;
 
 /// The most channels that a controller has.
@@ -52,7 +54,7 @@ pub struct Config {
     pub clipped_ratio_threshold: f32,
     /// How many frames after clipping are not tested. 0 to 65,535.
     pub clipped_wait_frames: i32,
-    /// Whether clipping is predicted.
+    /// Whether clipping is predicted, whichever predictor the controller is made with.
     pub enable_clipping_predictor: bool,
     /// The highest speech level that is left alone, in dBFS. -90 to 30.
     pub target_range_max_dbfs: i32,
@@ -129,10 +131,16 @@ pub struct InputVolumeController {
 }
 
 impl InputVolumeController {
-    /// A controller of 1 to 8 channels. Refuses with causes 1 to 6.
+    /// A controller of 1 to 8 channels, with the original's predictor, [`ClippingPredictorConfig::default`]. Refuses with causes 1 to 6.
     pub fn new(num_capture_channels: i32, config: Config) -> Result<Self, Refusal> {
+        InputVolumeController::with_predictor(num_capture_channels, config, ClippingPredictorConfig::default())
+    }
+
+    /// A controller of 1 to 8 channels with a predictor of any mode. Refuses with causes 1 to 6, and then, whether the predictor is on or off, with 7,
+    /// 14 and 15. Whether it is on is said by [`Config::enable_clipping_predictor`].
+    pub fn with_predictor(num_capture_channels: i32, config: Config, predictor: ClippingPredictorConfig) -> Result<Self, Refusal> {
         // SAFETY: the function takes any numbers.
-        let made = unsafe { raw::agc2_new_by_value(num_capture_channels, config.in_numbers()) };
+        let made = unsafe { raw::agc2_new_with_predictor_by_value(num_capture_channels, config.in_numbers(), predictor.in_numbers()) };
         Refusal::check(made.refusal)?;
         Ok(InputVolumeController { raw: made })
     }

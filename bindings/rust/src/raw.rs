@@ -50,6 +50,17 @@ pub struct Config {
 }
 
 #[repr(C)]
+#[derive(Clone, Copy)]
+pub struct PredictorConfig {
+    pub mode: u32,
+    pub window_length: i32,
+    pub reference_window_length: i32,
+    pub reference_window_delay: i32,
+    pub clipping_threshold: i32,
+    pub crest_factor_margin: i32,
+}
+
+#[repr(C)]
 pub struct Record {
     pub present: u32,
     pub average: f32,
@@ -67,11 +78,13 @@ pub struct Layout {
     pub controller_predictor: u32,
     pub config_size: u32,
     pub record_size: u32,
+    pub predictor_config_size: u32,
 }
 
 extern "C" {
     pub fn agc2_default_config() -> Config;
-    pub fn agc2_new_by_value(num_capture_channels: i32, config: Config) -> Controller;
+    pub fn agc2_default_predictor_config() -> PredictorConfig;
+    pub fn agc2_new_with_predictor_by_value(num_capture_channels: i32, config: Config, predictor: PredictorConfig) -> Controller;
     pub fn agc2_initialize_by_value(control: ControlState) -> ControlState;
     pub fn agc2_handle_capture_output_used_change_by_value(control: ControlState, capture_output_used: u32) -> ControlState;
     pub fn agc2_analyze_input_audio_into(controller: &mut Controller, applied_input_volume: i32, samples_per_channel: usize, samples: *const f32, count: usize);
@@ -97,6 +110,7 @@ mod tests {
             controller_predictor: offset_of!(Controller, predictor) as u32,
             config_size: size_of::<Config>() as u32,
             record_size: size_of::<Record>() as u32,
+            predictor_config_size: size_of::<PredictorConfig>() as u32,
         };
         // SAFETY: the function takes nothing and asks for nothing.
         assert_eq!(unsafe { agc2_layout() }, here);

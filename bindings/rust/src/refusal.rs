@@ -18,10 +18,16 @@ pub enum Refusal {
     TargetRange = 5,
     /// speech probability or speech ratio threshold not 0 to 1, or not a number
     SpeechThreshold = 6,
+    /// predictor window or reference below 1, delay below 0, or delay + reference not above window
+    PredictorWindows = 7,
     /// a volume not 0 to 255
     InputVolume = 8,
     /// samples per channel not 1 to 480, or lent samples not channels × that
     FrameSize = 9,
+    /// predictor delay + reference above 64
+    PredictorCapacity = 14,
+    /// predictor threshold or margin not -200,000 to 200,000 thousandths of a dB
+    PredictorLevels = 15,
 }
 
 impl Refusal {
@@ -40,8 +46,11 @@ impl Refusal {
             4 => Refusal::WaitFrames,
             5 => Refusal::TargetRange,
             6 => Refusal::SpeechThreshold,
+            7 => Refusal::PredictorWindows,
             8 => Refusal::InputVolume,
             9 => Refusal::FrameSize,
+            14 => Refusal::PredictorCapacity,
+            15 => Refusal::PredictorLevels,
             other => unreachable!("libagc2.a answered {other}, which is no refusal of it"),
         })
     }
@@ -56,8 +65,11 @@ impl fmt::Display for Refusal {
             Refusal::WaitFrames => "clipped_wait_frames or update_input_volume_wait_frames not 0 to 65,535",
             Refusal::TargetRange => "a target not -90 to 30 dBFS",
             Refusal::SpeechThreshold => "speech probability or speech ratio threshold not 0 to 1, or not a number",
+            Refusal::PredictorWindows => "predictor window or reference below 1, delay below 0, or delay + reference not above window",
             Refusal::InputVolume => "a volume not 0 to 255",
             Refusal::FrameSize => "samples per channel not 1 to 480, or lent samples not channels × that",
+            Refusal::PredictorCapacity => "predictor delay + reference above 64",
+            Refusal::PredictorLevels => "predictor threshold or margin not -200,000 to 200,000 thousandths of a dB",
         })
     }
 }

@@ -1,5 +1,5 @@
 //! Drives the bindings as a tablet would.
-use agc2::{Accepted, Config, InputVolumeController, Refusal, MAX_CHANNELS, MAX_SAMPLES_PER_CHANNEL};
+use agc2::{Accepted, ClippingPredictorConfig, ClippingPredictorMode, Config, InputVolumeController, Refusal, MAX_CHANNELS, MAX_SAMPLES_PER_CHANNEL};
 
 fn made(channels: i32) -> InputVolumeController {
     InputVolumeController::new(channels, Config::default()).unwrap()
@@ -69,6 +69,61 @@ fn making_refuses_with_the_first_cause() {
     assert_eq!(with(|c| c.clipped_ratio_threshold = f32::NAN), None);
     assert_eq!(Refusal::SpeechThreshold.number(), 6);
     assert_eq!(Refusal::ChannelCount.to_string(), "channel count not 1 to 8");
+}
+
+#[test]
+fn the_default_predictor_is_the_originals() {
+    let original = ClippingPredictorConfig {
+        mode: ClippingPredictorMode::AdaptiveStepClippingPeakPrediction,
+        window_length: 5,
+        reference_window_length: 5,
+        reference_window_delay: 5,
+        clipping_threshold: -1000,
+        crest_factor_margin: 3000,
+    };
+    assert_eq!(ClippingPredictorConfig::default(), original);
+}
+
+/// A ring of two records. With threshold and margin in dB it answers what the frame says: the answers are an independent model's. A prediction empties the ring.
+#[test]
+fn each_mode_predicts_by_its_threshold() {
+    let frames = |first: [u32; 4], second: [u32; 4], mode, clipping_threshold| {
+        let predictor =
+            ClippingPredictorConfig { mode, window_length: 1, reference_window_length: 1, reference_window_delay: 1, clipping_threshold, crest_factor_margin: 1500 };
+        let config = Config { clipped_ratio_threshold: f32::INFINITY, clipped_wait_frames: 0, clipped_level_step: 5, ..Config::default() };
+        let mut c = InputVolumeController::with_predictor(1, config, predictor).unwrap();
+        for frame in [first, second] {
+            c.analyze_input_audio(200, 4, &frame.map(f32::from_bits)).unwrap();
+        }
+        (0..3).filter(|i| c.stored_record(0, *i).is_some()).count()
+    };
+    let event = ClippingPredictorMode::ClippingEventPrediction;
+    assert_eq!(frames([0x453b8000, 0x40e2ef57, 0xc11e1e16, 0x40d5329c], [0xc6af74f7, 0xc61af31d, 0xc61af31d, 0x461af31d], event, -3500), 0);
+    assert_eq!(frames([0xc08fd108, 0xc0b2736c, 0x453b8000, 0x3f8a5b7d], [0xc70401d9, 0xc66926db, 0xc66926db, 0x466926db], event, 999), 2);
+    // -2,500 is cut to -2,000 dB, which this frame does not pass
+    let adaptive = ClippingPredictorMode::AdaptiveStepClippingPeakPrediction;
+    assert_eq!(frames([0xc0d765a4, 0xc05fd037, 0x4092a938, 0xc53b8000], [0xc6c93ea0, 0x42303fab, 0xc2303fab, 0xc2303fab], adaptive, -2500), 2);
+    // 500 is cut to 0
+    let fixed = ClippingPredictorMode::FixedStepClippingPeakPrediction;
+    assert_eq!(frames([0x3ff50c5b, 0xc118b027, 0x3fc31acb, 0x453b8000], [0xc7018d14, 0x45b8fd21, 0xc5b8fd21, 0xc5b8fd21], fixed, 500), 0);
+}
+
+#[test]
+fn a_predictor_is_refused_after_the_settings_and_when_it_is_off() {
+    let with = |on: bool, ratio: f32, change: fn(&mut ClippingPredictorConfig)| {
+        let mut predictor = ClippingPredictorConfig::default();
+        change(&mut predictor);
+        let config = Config { enable_clipping_predictor: on, speech_ratio_threshold: ratio, ..Config::default() };
+        InputVolumeController::with_predictor(1, config, predictor).err()
+    };
+    for on in [true, false] {
+        assert_eq!(with(on, 0.6, |_| ()), None);
+        assert_eq!(with(on, 0.6, |p| p.window_length = 10), Some(Refusal::PredictorWindows));
+        assert_eq!(with(on, 0.6, |p| p.reference_window_delay = 60), Some(Refusal::PredictorCapacity));
+        assert_eq!(with(on, 0.6, |p| p.crest_factor_margin = 200_001), Some(Refusal::PredictorLevels));
+        assert_eq!(with(on, f32::NAN, |p| p.window_length = 0), Some(Refusal::SpeechThreshold));
+    }
+    assert_eq!(Refusal::PredictorCapacity.number(), 14);
 }
 
 #[test]

@@ -53,12 +53,10 @@ does {q} {s} {c} d {call} {says} w e h =
 
 -- ---- a making
 
-pub created : {made making : Making.Making} (m : Created) {r : Agc2Controller} → made ≡ making → r ≡ besideOf (outcomeNumber (outcomeSays (m .answer))) 0 (m .controller) → Making.CreatedAs made m
-    → CreatedAs making r
-created {made} {making} m {r} same e h =
-    subst (λ (x : Making.Making). CreatedAs x r) same
-    (subst (λ (x : Agc2Controller). CreatedAs made x) (sym e)
-    (record { refusal = ap outcomeNumber (h .answer); near = refl; unanswered = record { present = refl; volume = refl }; becomes = becomes (outcomeNumber (outcomeSays (m .answer))) 0 (m .controller) (h .good) (h .view) }))
+pub created : {making : Making.Making} (m : Created) {n : ℕ} {r : Agc2Controller} → n ≡ outcomeNumber (outcomeSays (m .answer)) → r ≡ besideOf n 0 (m .controller) → Making.CreatedAs making m → CreatedAs making r
+created {making} m {n} {r} f e h =
+    subst (λ (x : Agc2Controller). CreatedAs making x) (sym e)
+    (record { refusal = f ∙ ap outcomeNumber (h .answer); near = refl; unanswered = record { present = refl; volume = refl }; becomes = becomes n 0 (m .controller) (h .good) (h .view) })
 
 -- ---- a frame
 

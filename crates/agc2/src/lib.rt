@@ -12,9 +12,8 @@ ghost use Rattle.input_volume_controller.specs.Control.{Good as GoodControl};
 ghost use Rattle.input_volume_controller.specs.Plain.{wholeControl};
 ghost use Rattle.input_volume_controller.specs.Reply.{done};
 ghost use Rattle.input_volume_controller.specs.Calls.{initialise, captureSwitch, ControlDoes};
-ghost use Rattle.numbers.specs.Said.{outcomeSays};
 ghost use Rattle.agc2.specs.Settings.{configOf, predictorConfigOf};
-ghost use Rattle.agc2.specs.Answers.{outcomeNumber, recordOf, speechLevelOf};
+ghost use Rattle.agc2.specs.Answers.{recordOf, speechLevelOf};
 ghost use Rattle.agc2.specs.Whole.{wholeOf, besideOf};
 ghost use Rattle.agc2.specs.Calls.{CreatedWith, CreatedOf, AnalyzedOf, RecommendedOf};
 use crate::answers::Agc2Control;
@@ -22,7 +21,6 @@ use crate::answers::Agc2Controller;
 use crate::answers::Agc2Record;
 use crate::settings::Agc2Config;
 use crate::settings::Agc2PredictorConfig;
-use input_volume_controller::Created;
 use input_volume_controller::InputVolumeController;
 use input_volume_controller::plain::PlainControl;
 use input_volume_controller::plain::plain_control;
@@ -65,10 +63,20 @@ fn beside(refusal: u32, near: u32, c: InputVolumeController) -> Agc2Controller
     }
 }
 
-// What a making hands back, in numbers.
-fn created(made: Created) -> Agc2Controller
-    ensures { λ r. ⌜ r ≡ besideOf (outcomeNumber (outcomeSays (made .answer))) 0 (made .controller) ⌝ }
+// With any predictor: causes 1 to 6, and then, with the predictor off too, 7, 14 and 15.
+#[no_mangle]
+pub extern "C" fn agc2_new_with_predictor_by_value(
+    num_capture_channels: i32,
+    config: Agc2Config,
+    predictor: Agc2PredictorConfig,
+) -> Agc2Controller
+    ensures { λ r. ⌜ CreatedWith «num_capture_channels» (configOf config) (predictorConfigOf predictor) r ⌝ }
 {
+    let made = InputVolumeController::with_predictor(
+        num_capture_channels,
+        settings::config_of(config),
+        settings::predictor_config_of(predictor),
+    );
     let answer = made.answer;
     let controller = made.controller;
     beside(answers::outcome_number(answer), 0, controller)
@@ -79,23 +87,11 @@ fn created(made: Created) -> Agc2Controller
 pub extern "C" fn agc2_new_by_value(num_capture_channels: i32, config: Agc2Config) -> Agc2Controller
     ensures { λ r. ⌜ CreatedOf «num_capture_channels» (configOf config) r ⌝ }
 {
-    created(InputVolumeController::new(num_capture_channels, settings::config_of(config)))
-}
-
-// With any predictor: causes 1 to 6, and then, with the predictor off too, 7, 14 and 15.
-#[no_mangle]
-pub extern "C" fn agc2_new_with_predictor_by_value(
-    num_capture_channels: i32,
-    config: Agc2Config,
-    predictor: Agc2PredictorConfig,
-) -> Agc2Controller
-    ensures { λ r. ⌜ CreatedWith «num_capture_channels» (configOf config) (predictorConfigOf predictor) r ⌝ }
-{
-    created(InputVolumeController::with_predictor(
+    agc2_new_with_predictor_by_value(
         num_capture_channels,
-        settings::config_of(config),
-        settings::predictor_config_of(predictor),
-    ))
+        config,
+        settings::agc2_default_predictor_config(),
+    )
 }
 
 #[no_mangle]

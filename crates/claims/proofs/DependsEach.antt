@@ -31,7 +31,7 @@ use Rattle.input_volume_controller.specs.ClippedRatio.{countOf, clippedIn, most
 use Rattle.input_volume_controller.specs.Channels.{called, aggregateOf}
 use Rattle.input_volume_controller.specs.ControlCalls.{withAppliedInputVolume, initialize, lowerChannels}
 use Rattle.input_volume_controller.specs.Controller.{predictorSettings, basePredictor}
-use Rattle.input_volume_controller.proofs.Making.{base-checked}
+use Rattle.input_volume_controller.proofs.Built.{base-checked}
 use Rattle.input_volume_controller.specs.Reply.{Reply}
 use Rattle.input_volume_controller.specs.Reply as Reply
 use Rattle.input_volume_controller.specs.Frame.{analyzeInputAudio}

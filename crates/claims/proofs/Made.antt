@@ -25,7 +25,7 @@ use Rattle.mono_input_volume_controller.specs.declared.config.Checked.the-varia
 use Rattle.mono_input_volume_controller.specs.MonoState.{maxInputVolume, maxWait}
 use Rattle.mono_input_volume_controller.specs.Config.{inRange, bothInRange, volumesInRange, stepInRange, waitsInRange, targetsInRange, thresholdsInRange, settingsFrom, checkedIf, settingsOf}
 use Rattle.input_volume_controller.specs.Controller.{Controller, basePredictor, switched, freshWith, fresh, madeWith, madeOf, makingWith, makingOf}
-use Rattle.input_volume_controller.proofs.Making.{base-checked}
+use Rattle.input_volume_controller.proofs.Built.{base-checked}
 use Rattle.mono_input_volume_controller.proofs.Settings.{both-most}
 use Rattle.claims.proofs.Sound.{Sound, sound-fresh}
 

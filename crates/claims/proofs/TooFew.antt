@@ -44,7 +44,7 @@ use Rattle.input_volume_controller.specs.Controller.{Controller, basePredictor,
 use Rattle.input_volume_controller.specs.Frame.{analyzeInputAudio}
 use Rattle.input_volume_controller.specs.Recommendation.{recommendInputVolume}
 use Rattle.input_volume_controller.specs.Calls.{Call, initialise, Answer, after, answers}
-use Rattle.input_volume_controller.proofs.Making.{base-checked}
+use Rattle.input_volume_controller.proofs.Built.{base-checked}
 use Rattle.claims.specs.Past.{isAccepted}
 use Rattle.claims.specs.LeadIn.{all, acceptedBy, acceptedIn, isQuiet, quiet, comparedIn, quietFor, isCalm, LeadIn, callsOf}
 use Rattle.claims.specs.TwoPasts.{AlikeAfter, enough, enoughFor}

@@ -27,6 +27,7 @@ use Rattle.clipping_predictor.specs.declared.settings.Checked.{Checked}
 use Rattle.clipping_predictor.specs.declared.settings.Checked.the-variants as Checked
 use Rattle.clipping_predictor.specs.declared.ClippingPredictor.{ClippingPredictor}
 use Rattle.clipping_predictor.specs.declared.Created.{Created}
+use Rattle.clipping_predictor.specs.declared.making.Decided.{Decided}
 use Rattle.clipping_predictor.specs.declared.Analyzed.{Analyzed}
 use Rattle.clipping_predictor.specs.Settings.{settingsOf}
 use Rattle.clipping_predictor.specs.Settings as Settings
@@ -73,9 +74,12 @@ pub record Making : Type 0 where
   pub answer : Outcome
   pub predictor : Predictor
 
+abbrev pub unmade : Refusal → Making
+unmade cause = record { answer = Refused cause; predictor = emptyPredictor unmadeSettings 1 }
+
 unfoldable pub madeOf : Natural → Checked → Making
-madeOf Outside settings = record { answer = Refused ChannelCount; predictor = emptyPredictor unmadeSettings 1 }
-madeOf (Number channels) (Checked.Refused cause) = record { answer = Refused cause; predictor = emptyPredictor unmadeSettings 1 }
+madeOf Outside settings = unmade ChannelCount
+madeOf (Number channels) (Checked.Refused cause) = unmade cause
 madeOf (Number channels) (Checked.InOrder s) = record { answer = Accepted; predictor = emptyPredictor s channels }
 
 unfoldable pub makingOf : ℤ → ClippingPredictorConfig → Making
@@ -92,10 +96,12 @@ pub record Fresh (channels : ℕ) (s : Settings) (r : ClippingPredictor) : Type 
   pub good : Good r
   pub view : viewOf r ≡ emptyPredictor s channels
 
-pub record RefusedWith (cause : Refusal) (r : Created) : Type 0 where
-  pub good : Good (r .predictor)
-  pub answer : r .answer ≡ Refused cause
-  pub view : viewOf (r .predictor) ≡ emptyPredictor unmadeSettings 1
+-- d is what to answer and to build, tested, and comes to that making
+pub record DecidedAs (making : Making) (d : Decided) : Type 0 where
+  pub low : 1 ≤ d .channels
+  pub high : d .channels ≤ maxChannels
+  pub settings : Settings.Good (d .settings)
+  pub is : record { answer = d .answer; predictor = emptyPredictor (d .settings) (d .channels) } ≡ making
 
 -- ---- frames
 

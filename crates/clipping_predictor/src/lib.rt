@@ -9,16 +9,14 @@ ghost use Rattle.clipping_predictor_level_buffer.specs.Ring.{Pushed};
 ghost use Rattle.clipping_predictor_level_buffer.specs.Ring.{Good as GoodRing};
 ghost use Rattle.clipping_predictor.specs.Settings.{Good as GoodSettings};
 ghost use Rattle.clipping_predictor.specs.AllRings.{EnteredOf, HeardOf};
-ghost use Rattle.clipping_predictor.specs.Predictor.{maxChannels, Good, viewOf, Fresh, RefusedWith, CreatedOf, frameFits, outcomeIf, AnalyzedOf, ResetOf};
+ghost use Rattle.clipping_predictor.specs.Predictor.{maxChannels, Good, viewOf, Fresh, CreatedOf, frameFits, outcomeIf, AnalyzedOf, ResetOf};
 ghost use Rattle.clipping_predictor.specs.EstimateCall.{argumentsOf, dropOr, estimateSays, estimateOf};
 pub use crate::modes::Asked;
 pub use crate::modes::Estimated;
 pub use crate::modes::Question;
 use crate::modes::answered;
 use crate::modes::joined;
-use crate::settings::Checked;
 use crate::settings::ClippingPredictorConfig;
-use crate::settings::ClippingPredictorMode;
 use crate::settings::Settings;
 use clipping_predictor_level_buffer::ClippingPredictorLevelBuffer;
 use clipping_predictor_level_buffer::level::MAX_SAMPLES_PER_CHANNEL;
@@ -27,6 +25,7 @@ use numbers::natural::Natural;
 use numbers::refusal::Outcome;
 use numbers::refusal::Refusal;
 
+mod making;
 mod modes;
 pub mod settings;
 
@@ -86,38 +85,16 @@ fn fresh(channels: usize, settings: Settings) -> ClippingPredictor
     }
 }
 
-fn refused(cause: Refusal) -> Created
-    ensures { λ r. ⌜ RefusedWith cause r ⌝ }
-{
-    let settings = Settings {
-        enabled: false,
-        mode: ClippingPredictorMode::AdaptiveStepClippingPeakPrediction,
-        window: 5,
-        reference: 5,
-        delay: 5,
-        threshold: 0,
-        margin: 0,
-    };
-    Created {
-        answer: Outcome::Refused(cause),
-        predictor: fresh(1, settings),
-    }
-}
-
 pub fn create_clipping_predictor(num_channels: i32, config: ClippingPredictorConfig) -> Created
     ensures { λ r. ⌜ CreatedOf «num_channels» config r ⌝ }
 {
-    let count = numbers::natural::within(1, MAX_CHANNELS, num_channels);
-    let Natural::Number(channels) = count else {
-        return refused(Refusal::ChannelCount);
-    };
-    let checked = settings::check(config);
-    match checked {
-        Checked::Refused(cause) => refused(cause),
-        Checked::InOrder(settings) => Created {
-            answer: Outcome::Accepted,
-            predictor: fresh(channels, settings),
-        },
+    let decided = making::decide(num_channels, config);
+    let answer = decided.answer;
+    let channels = decided.channels;
+    let settings = decided.settings;
+    Created {
+        answer,
+        predictor: fresh(channels, settings),
     }
 }
 

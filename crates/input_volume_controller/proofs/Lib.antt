@@ -1,7 +1,7 @@
 pub mod Clipped
 pub mod ChannelLists
 pub mod Volumes
-pub mod Making
+pub mod Built
 pub mod Whole
 pub mod Answers
 pub mod Numbered

@@ -2,7 +2,7 @@
 -- order. Definitions only.
 use mathlib.Core.Path.{_≡_}
 use mathlib.Core.Bool.{Bool, true, false}
-use Prim.Native.Nat.{ℕ}
+use Prim.Native.Nat.{ℕ, _≤_}
 use lib.IntN.{ℤ, pos, negsuc}
 use lib.ListN.{replicate}
 use Rattle.numbers.specs.declared.natural.Natural.{Natural}
@@ -31,7 +31,9 @@ use Rattle.input_volume_controller.specs.declared.Applied.the-variants.{
 use Rattle.input_volume_controller.specs.declared.volume_control.VolumeControl.{VolumeControl}
 use Rattle.input_volume_controller.specs.declared.InputVolumeController.{InputVolumeController}
 use Rattle.input_volume_controller.specs.declared.Created.{Created}
+use Rattle.input_volume_controller.specs.declared.making.Decided.{Decided}
 use Rattle.mono_input_volume_controller.specs.Config.{defaults, settingsFrom, settingsOf}
+use Rattle.mono_input_volume_controller.specs.Config as Config
 use Rattle.mono_input_volume_controller.specs.Mono.{created}
 use Rattle.input_volume_controller.specs.Control.{Control, controlOf}
 use Rattle.input_volume_controller.specs.Control as ControlOf
@@ -134,6 +136,15 @@ makingWith channels config predictor = madeOf (withinOf 1 maxChannels channels) 
 -- with the base's predictor
 abbrev pub makingOf : ℤ → Config → Making
 makingOf channels config = makingWith channels config basePredictor
+
+-- what the private functions of the making say: d is what to answer and to build, tested, and comes to that making
+pub record DecidedAs (making : Making) (d : Decided) : Type 0 where
+  pub low : 1 ≤ d .channels
+  pub high : d .channels ≤ maxChannels
+  pub settings : Config.Good (d .settings)
+  pub predictor : Predictor.Settings
+  pub checked : PredictorSettings.settingsOf (d .predictor) ≡ PredictorChecked.InOrder predictor
+  pub is : record { answer = d .answer; controller = freshWith predictor (d .settings) (d .channels) } ≡ making
 
 -- what the contracts of the makings say: r is the making, in good order
 pub record CreatedAs (making : Making) (r : Created) : Type 0 where

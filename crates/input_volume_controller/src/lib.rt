@@ -2,28 +2,21 @@
 // channels one after another.
 ghost use mathlib.Core.Path.{_≡_};
 ghost use mathlib.Core.List.{[]};
-ghost use Prim.Native.Nat.{_≤_};
 ghost use lib.IntN.{pos};
 ghost use lib.ListN.{getD};
 ghost use Rattle.clipping_predictor_level_buffer.specs.Ring.{storedSays, storedAt};
-ghost use Rattle.clipping_predictor.specs.Predictor.{maxChannels};
-ghost use Rattle.mono_input_volume_controller.specs.Config.{Good as GoodSettings};
-ghost use Rattle.clipping_predictor.specs.Settings.{settingsOf as predictorSettingsOf};
-ghost use Rattle.input_volume_controller.specs.Controller.{viewOf, Good, basePredictor, switched, unmade, madeWith, CreatedAs, CreatedWith, CreatedOf};
+ghost use Rattle.input_volume_controller.specs.Controller.{viewOf, Good, CreatedWith, CreatedOf};
 ghost use Rattle.input_volume_controller.specs.Reply.{done, recommendationSays};
 ghost use Rattle.input_volume_controller.specs.Calls.{recommendation, initialise, captureSwitch, Does, AnalyzedOf};
+pub use crate::making::default_predictor_config;
 pub use crate::volume_control::VolumeControl;
 use crate::volume_control::fresh_control;
 use clipping_predictor::ClippingPredictor;
-use clipping_predictor::MAX_CHANNELS;
 use clipping_predictor::create_clipping_predictor;
 use clipping_predictor::frame_fits;
 use clipping_predictor::settings::ClippingPredictorConfig;
-use clipping_predictor::settings::ClippingPredictorMode;
 use clipping_predictor_level_buffer::Stored;
-use mono_input_volume_controller::config::Checked;
 use mono_input_volume_controller::config::Config;
-use mono_input_volume_controller::config::Settings;
 use mono_input_volume_controller::speech_level::SpeechLevel;
 use numbers::natural::Natural;
 use numbers::refusal::Outcome;
@@ -32,6 +25,7 @@ use numbers::refusal::Refusal;
 mod channels;
 mod clipped_ratio;
 mod frame;
+mod making;
 pub mod plain;
 mod volume_control;
 
@@ -74,66 +68,6 @@ pub struct Recommended {
     pub controller: InputVolumeController,
 }
 
-// The base's predictor: the source's `ClippingPredictorConfig::default`, which `new` takes.
-pub fn default_predictor_config() -> ClippingPredictorConfig
-    ensures { λ r. ⌜ r ≡ basePredictor ⌝ }
-{
-    ClippingPredictorConfig {
-        enabled: false,
-        mode: ClippingPredictorMode::AdaptiveStepClippingPeakPrediction,
-        window_length: 5,
-        reference_window_length: 5,
-        reference_window_delay: 5,
-        clipping_threshold: -1000,
-        crest_factor_margin: 3000,
-    }
-}
-
-// The settings switch a predictor on and off; what its own configuration says is not looked at.
-fn switched(on: bool, c: ClippingPredictorConfig) -> ClippingPredictorConfig
-    ensures { λ r. ⌜ r ≡ switched on c ⌝ }
-{
-    let mut predictor = c;
-    predictor.enabled = on;
-    predictor
-}
-
-// One channel, the default settings, and the base's predictor.
-fn refused(cause: Refusal) -> Created
-    ensures { λ r. ⌜ CreatedAs (unmade cause) r ⌝ }
-{
-    let s = mono_input_volume_controller::config::default_settings();
-    let made = create_clipping_predictor(1, switched(s.predicts, default_predictor_config()));
-    let predictor = made.predictor;
-    Created {
-        answer: Outcome::Refused(cause),
-        controller: InputVolumeController {
-            control: fresh_control(1, s),
-            predictor,
-        },
-    }
-}
-
-// Settings and a channel count that were tested, and a predictor that is tested here, whether it is on or off: causes 7, 14 and 15.
-fn made(channels: usize, s: Settings, predictor: ClippingPredictorConfig) -> Created
-    requires { ⌜ (1 ≤ channels) × (channels ≤ maxChannels) × GoodSettings s ⌝ }
-    ensures { λ r. ⌜ CreatedAs (madeWith channels s (predictorSettingsOf (switched (s .predicts) predictor))) r ⌝ }
-{
-    let tested = create_clipping_predictor(channels as i32, switched(s.predicts, predictor));
-    let answer = tested.answer;
-    let rings = tested.predictor;
-    match answer {
-        Outcome::Refused(cause) => refused(cause),
-        Outcome::Accepted => Created {
-            answer: Outcome::Accepted,
-            controller: InputVolumeController {
-                control: fresh_control(channels, s),
-                predictor: rings,
-            },
-        },
-    }
-}
-
 impl InputVolumeController {
     // With the base's predictor. Tests causes 1 to 6, in that order.
     pub fn new(num_capture_channels: i32, config: Config) -> Created
@@ -142,7 +76,7 @@ impl InputVolumeController {
         InputVolumeController::with_predictor(
             num_capture_channels,
             config,
-            default_predictor_config(),
+            making::default_predictor_config(),
         )
     }
 
@@ -154,14 +88,19 @@ impl InputVolumeController {
     ) -> Created
         ensures { λ r. ⌜ CreatedWith «num_capture_channels» config predictor r ⌝ }
     {
-        let count = numbers::natural::within(1, MAX_CHANNELS, num_capture_channels);
-        let Natural::Number(channels) = count else {
-            return refused(Refusal::ChannelCount);
-        };
-        let checked = mono_input_volume_controller::config::check(config);
-        match checked {
-            Checked::Refused(cause) => refused(cause),
-            Checked::InOrder(settings) => made(channels, settings, predictor),
+        let decided = making::decide(num_capture_channels, config, predictor);
+        let answer = decided.answer;
+        let channels = decided.channels;
+        let settings = decided.settings;
+        let chosen = decided.predictor;
+        let made = create_clipping_predictor(channels as i32, chosen);
+        let rings = made.predictor;
+        Created {
+            answer,
+            controller: InputVolumeController {
+                control: fresh_control(channels, settings),
+                predictor: rings,
+            },
         }
     }
 

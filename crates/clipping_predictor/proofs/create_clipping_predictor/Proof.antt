@@ -1,105 +1,26 @@
--- `clipping_predictor::create_clipping_predictor` meets its contract: the channel count is tested first, and then the settings. Assumes nothing.
-use mathlib.Core.Path.{_≡_, refl, sym, ap, ap₂, _∙_}
-use mir.Syntax.{w32}
-use mir.ValLaws.{toZ-ofZ}
-use Rattle.numbers.specs.declared.natural.Natural.{Natural}
-use Rattle.numbers.specs.declared.natural.Natural.the-variants.{Number}
-use Rattle.numbers.specs.Natural.{withinOf}
+-- `clipping_predictor::create_clipping_predictor` meets its contract: what was decided is built. Assumes nothing.
+use mathlib.Core.Path.{ap, subst, _∙_}
+use lib.IntN.{ℤ}
 use Rattle.numbers.specs.Said.{outcomeSays}
-use Rattle.numbers.proofs.Ranges.{told}
-use Rattle.clipping_predictor.specs.declared.settings.Checked.{Checked}
-use Rattle.clipping_predictor.specs.Settings.{settingsOf}
-use Rattle.clipping_predictor.specs.Predictor.{maxChannels, Making, madeOf, makingOf}
-use Rattle.clipping_predictor.proofs.Rings.{good-settings}
-use Rattle.clipping_predictor.proofs.Says.{checked-fixed}
+use Rattle.numbers.proofs.Signs.{again}
+use Rattle.clipping_predictor.specs.Predictor.{Making, makingOf, DecidedAs}
 use borrow.Author.Needs.{needs}
 use Rattle.clipping_predictor.proofs.create_clipping_predictor.Statement.{statement}
 use Rattle.clipping_predictor.proofs.create_clipping_predictor.Tie as tie
 
--- the making, from what the two tests say; the channel count is the one that the machine reads back
-of-parts : (s : tie.Start) (a : Natural) (b : Checked) → withinOf 1 maxChannels (mir.Val.toZ w32 (mir.Val.ofZ w32 (s .args .num-channels))) ≡ a → settingsOf (s .args .config) ≡ b → makingOf (s .args .num-channels) (s .args .config) ≡ madeOf a b
-unfolding makingOf
-of-parts s a b p q = ap₂ madeOf (sym (ap (withinOf 1 maxChannels) (toZ-ofZ w32 (s .args .num-channels) (s .fits .num-channels))) ∙ p) q
-
-count-is : (c : tie.After-count) → withinOf 1 maxChannels (mir.Val.toZ w32 (mir.Val.ofZ w32 (c .before .before .before .args .num-channels))) ≡ Number (c .count .given .0 .0)
-count-is c = sym (c .before .before .within .ensures) ∙ c .count .given .1
-
-checked-is : (c : tie.After-check) → c .check .result ≡ settingsOf (c .before .before .before .before .before .args .config)
-checked-is c = checked-fixed (c .check .result) (settingsOf (c .before .before .before .before .before .args .config)) (c .check .ensures)
-
-within-requires : tie.Need-within-requires
-within-requires c κs = search needs
-
-enum-known-count : tie.Need-enum-known-count
-enum-known-count c = search needs
-
-enum-told : tie.Need-enum-told
-enum-told c = search needs
-
-refused-requires : tie.Need-refused-requires
-refused-requires c κs = search needs
-
-returns : tie.Need-returns
-unfolding madeOf
-returns c =
-    let w = c .before .before .before in
-    let s = w .before in
-    let e = of-parts s _ (settingsOf (s .args .config)) (sym (w .within .ensures) ∙ c .before .enum-told .given .1) refl in
-    let r = c .refused .ensures in
-    record { good = r .good; answer = ap outcomeSays (r .answer ∙ sym (ap (λ (m : Making). m .answer) e)); view = r .view ∙ sym (ap (λ (m : Making). m .predictor) e) }
-
-check-requires : tie.Need-check-requires
-check-requires c κs = search needs
-
-enum-known-checked : tie.Need-enum-known-checked
-enum-known-checked c = search needs
-
-refused-requires-2 : tie.Need-refused-requires-2
-refused-requires-2 c κs = search needs
-
-enum-known-checked-2 : tie.Need-enum-known-checked-2
-enum-known-checked-2 c = search needs
+decide-requires : tie.Need-decide-requires
+decide-requires c κs = search needs
 
 fresh-requires : tie.Need-fresh-requires
-fresh-requires c κs =
-    let k = c .before .before .before in
-    let n = k .before .before in
-    let t = told 1 maxChannels _ _ (count-is n) in
-    (good-settings _ _ (sym (checked-is k) ∙ c .before .checked2 .given .1), t .least, t .most)
+fresh-requires c κs = search needs
 
-returns-2 : tie.Need-returns-2
-unfolding madeOf
-returns-2 c =
-    let k = c .before .before .before .before in
-    let n = k .before .before in
-    let s = n .before .before .before in
-    let e = of-parts s _ _ (count-is n) (sym (checked-is k) ∙ c .before .before .checked .given .1) in
-    let r = c .refused2 .ensures in
-    record { good = r .good; answer = ap outcomeSays (r .answer ∙ sym (ap (λ (m : Making). m .answer) e)); view = r .view ∙ sym (ap (λ (m : Making). m .predictor) e) }
-
-returns-3 : tie.Need-returns-3
-unfolding madeOf
-returns-3 c =
-    let k = c .before .before .before .before in
-    let n = k .before .before in
-    let s = n .before .before .before in
-    let e = of-parts s _ _ (count-is n) (sym (checked-is k) ∙ c .before .before .checked2 .given .1) in
-    let r = c .fresh .ensures in
-    record { good = r .good; answer = ap outcomeSays (sym (ap (λ (m : Making). m .answer) e)); view = r .view ∙ sym (ap (λ (m : Making). m .predictor) e) }
+returns : tie.Need-returns
+returns c =
+    let k = c .before .before in
+    let s = k .before in
+    let h = subst (λ (z : ℤ). DecidedAs (makingOf z (s .args .config)) (k .decide .result)) (again (s .args .num-channels) (s .fits .num-channels .sfits)) (k .decide .ensures) in
+    let f = c .fresh .ensures in
+    record { good = f .good; answer = ap (λ (m : Making). outcomeSays (m .answer)) (h .is); view = f .view ∙ ap (λ (m : Making). m .predictor) (h .is) }
 
 pub create-clipping-predictor-spec : {M : Type 1} → statement M
-create-clipping-predictor-spec =
-    tie.close
-    (tie.spec
-    within-requires
-    enum-known-count
-    enum-told
-    refused-requires
-    returns
-    check-requires
-    enum-known-checked
-    refused-requires-2
-    enum-known-checked-2
-    fresh-requires
-    returns-2
-    returns-3)
+create-clipping-predictor-spec = tie.close (tie.spec decide-requires fresh-requires returns)

@@ -1,85 +1,35 @@
--- `InputVolumeController::with_predictor` meets its contract: the channel count is tested first, then the settings, and then the predictor. Assumes nothing.
-use mathlib.Core.Path.{_≡_, refl, sym, ap, ap₂, subst, _∙_}
-use Rattle.numbers.specs.declared.natural.Natural.{Natural}
-use Rattle.numbers.specs.declared.natural.Natural.the-variants.{Number}
-use Rattle.numbers.specs.Natural.{withinOf}
-use Rattle.numbers.proofs.Signs.{read, again}
-use Rattle.numbers.proofs.Ranges.{told}
-use Rattle.clipping_predictor.specs.Predictor.{maxChannels}
-use Rattle.mono_input_volume_controller.specs.declared.config.Checked.{Checked}
-use Rattle.mono_input_volume_controller.specs.Config.{settingsOf}
-use Rattle.input_volume_controller.specs.Controller.{Making, madeOf, makingWith, CreatedAs}
-use Rattle.mono_input_volume_controller.proofs.Checked.{checked-good}
-use Rattle.mono_input_volume_controller.proofs.Says.{checked-fixed}
+-- `InputVolumeController::with_predictor` meets its contract: what was decided is built. Assumes nothing.
+use mathlib.Core.Path.{subst}
+use native.Mathlib.Omega.{arith}
+use mir.Syntax.{w32}
+use mir.ValLaws.{toZ-pos}
+use lib.IntN.{ℤ}
+use Rattle.numbers.proofs.Signs.{again}
+use Rattle.input_volume_controller.specs.Controller.{makingWith, DecidedAs}
+use Rattle.input_volume_controller.proofs.Built.{built}
 use borrow.Author.Needs.{needs}
 use Rattle.input_volume_controller.proofs.InputVolumeController.with_predictor.Statement.{statement}
 use Rattle.input_volume_controller.proofs.InputVolumeController.with_predictor.Tie as tie
 
--- the making, from what the two tests say; the channel count is the one that the machine reads back
-of-parts : (s : tie.Start) (a : Natural) (b : Checked) → withinOf 1 maxChannels (read (s .args .num-capture-channels)) ≡ a → settingsOf (s .args .config) ≡ b
-    → makingWith (s .args .num-capture-channels) (s .args .config) (s .args .predictor) ≡ madeOf a b (s .args .predictor)
-unfolding makingWith
-of-parts s a b p q = ap₂ (λ (x : Natural) (y : Checked). madeOf x y (s .args .predictor)) (sym (ap (withinOf 1 maxChannels) (again (s .args .num-capture-channels) (s .fits .num-capture-channels .sfits))) ∙ p) q
+decide-requires : tie.Need-decide-requires
+decide-requires c κs = search needs
 
-count-is : (c : tie.After-count) → withinOf 1 maxChannels (read (c .before .before .before .args .num-capture-channels)) ≡ Number (c .count .given .0 .0)
-count-is c = sym (c .before .before .within .ensures) ∙ c .count .given .1
+cast-create-clipping-predictor : tie.Need-cast-create-clipping-predictor
+cast-create-clipping-predictor c = search needs
 
-checked-is : (c : tie.After-check) → c .check .result ≡ settingsOf (c .before .before .before .before .before .args .config)
-checked-is c = checked-fixed (c .check .result) (settingsOf (c .before .before .before .before .before .args .config)) (c .check .ensures)
+create-clipping-predictor-requires : tie.Need-create-clipping-predictor-requires
+create-clipping-predictor-requires c κs = search needs
 
-within-requires : tie.Need-within-requires
-within-requires c κs = search needs
-
-enum-known-count : tie.Need-enum-known-count
-enum-known-count c = search needs
-
-enum-told : tie.Need-enum-told
-enum-told c = search needs
-
-refused-requires : tie.Need-refused-requires
-refused-requires c κs = search needs
+fresh-control-requires : tie.Need-fresh-control-requires
+fresh-control-requires c κs = search needs
 
 returns : tie.Need-returns
-unfolding madeOf
 returns c =
-    let w = c .before .before .before in
-    let s = w .before in
-    let e = of-parts s _ (settingsOf (s .args .config)) (sym (w .within .ensures) ∙ c .before .enum-told .given .1) refl in
-    subst (λ (m : Making). CreatedAs m (c .refused .result)) (sym e) (c .refused .ensures)
-
-check-requires : tie.Need-check-requires
-check-requires c κs = search needs
-
-enum-known-checked : tie.Need-enum-known-checked
-enum-known-checked c = search needs
-
-refused-requires-2 : tie.Need-refused-requires-2
-refused-requires-2 c κs = search needs
-
-enum-known-checked-2 : tie.Need-enum-known-checked-2
-enum-known-checked-2 c = search needs
-
-made-requires : tie.Need-made-requires
-made-requires c κs =
-    let k = c .before .before .before in
-    let t = told 1 maxChannels _ _ (count-is (k .before .before)) in
-    (t .least, t .most, checked-good _ _ (sym (checked-is k) ∙ c .before .checked2 .given .1))
-
-returns-2 : tie.Need-returns-2
-unfolding madeOf
-returns-2 c =
-    let k = c .before .before .before .before in
-    let n = k .before .before in
-    let e = of-parts (n .before .before .before) _ _ (count-is n) (sym (checked-is k) ∙ c .before .before .checked .given .1) in
-    subst (λ (m : Making). CreatedAs m (c .refused2 .result)) (sym e) (c .refused2 .ensures)
-
-returns-3 : tie.Need-returns-3
-unfolding madeOf
-returns-3 c =
-    let k = c .before .before .before .before in
-    let n = k .before .before in
-    let e = of-parts (n .before .before .before) _ _ (count-is n) (sym (checked-is k) ∙ c .before .before .checked2 .given .1) in
-    subst (λ (m : Making). CreatedAs m (c .made .result)) (sym e) (c .made .ensures)
+    let k = c .before .before .before .before .before in
+    let s = k .before in
+    let d = k .decide .result in
+    let h = subst (λ (z : ℤ). DecidedAs (makingWith z (s .args .config) (s .args .predictor)) d) (again (s .args .num-capture-channels) (s .fits .num-capture-channels .sfits)) (k .decide .ensures) in
+    built d (c .fresh-control .result) (c .before .before .create-clipping-predictor .result) _ h (toZ-pos w32 (d .channels) (omega (arith, h .high))) (c .fresh-control .ensures) (c .before .before .create-clipping-predictor .ensures)
 
 pub with-predictor-spec : {M : Type 1} → statement M
-with-predictor-spec = tie.close (tie.spec within-requires enum-known-count enum-told refused-requires returns check-requires enum-known-checked refused-requires-2 enum-known-checked-2 made-requires returns-2 returns-3)
+with-predictor-spec = tie.close (tie.spec decide-requires cast-create-clipping-predictor create-clipping-predictor-requires fresh-control-requires returns)
