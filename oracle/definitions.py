@@ -92,7 +92,7 @@ EDITS = [
         (PREDICTOR + "Settings.antt", "Natural.{atLeastOf}", "Natural.{withinOf, atLeastOf}"),
         (PREDICTOR + "Settings.antt", "atLeastOf 0 (c .«reference_window_delay»)", "withinOf 0 maxCapacity (c .«reference_window_delay»)")]),
     ("beside a refusal stands a predictor with the channels asked for", "RefusedBelow", [
-        (PREDICTOR + "Predictor.antt", "(Checked.Refused cause) = record { answer = Refused cause; predictor = emptyPredictor unmadeSettings 1 }",
+        (PREDICTOR + "Predictor.antt", "(Checked.Refused cause) = unmade cause",
          "(Checked.Refused cause) = record { answer = Refused cause; predictor = emptyPredictor unmadeSettings channels }")]),
     # ---- document 02 (x)
     ("sides 10 apart are near", "MarkedExactly", [
@@ -152,6 +152,29 @@ EDITS = [
         ("crates/numbers/specs/Refusal.antt", "numberOf InputVolume = 8", "numberOf InputVolume = 9")]),
     ("a ring's range is cause 10", "RefusedBelow", [
         ("crates/numbers/specs/Refusal.antt", "numberOf RingRange = 11", "numberOf RingRange = 10")]),
+    # ---- document 02 (iv)
+    ("7 is tested before 6", "RefusedCalls", [
+        (IVC + "Controller.antt", "-- the channel count is tested first, then the settings",
+         "unfoldable pub refusedFirst : Refusal → PredictorCheck.Checked → Making\nrefusedFirst cause (PredictorChecked.Refused other) = unmade other\n"
+         "refusedFirst cause (PredictorChecked.InOrder p) = unmade cause\n\n-- the channel count is tested first, then the settings"),
+        (IVC + "Controller.antt", "unfolding madeWith\nmadeOf Outside", "unfolding madeWith refusedFirst\nmadeOf Outside"),
+        (IVC + "Controller.antt", "madeOf (Number channels) (Checked.Refused cause) predictor = unmade cause",
+         "madeOf (Number channels) (Checked.Refused cause) predictor = refusedFirst cause (PredictorSettings.settingsOf predictor)")]),
+    ("a predictor's windows are not tested where it is off", "RefusedCalls", [
+        (PREDICTOR + "Settings.antt", "use mathlib.Core.Bool.{Bool, true, false, _&&_}", "use mathlib.Core.Bool.{Bool, true, false, not, _&&_, _||_}"),
+        (PREDICTOR + "Settings.antt", "checkedIf (ltb window (delay + reference))", "checkedIf (not (c .enabled) || ltb window (delay + reference))")]),
+    # with the threshold -1,999 a peak of -1,500 is above it, and not above -1,000
+    ("event mode compares with the threshold cut to whole dB", "UnmarkedIsExact", [
+        (PREDICTOR + "Estimate.antt", "a = eventTree (s .threshold) (s .margin) window reference a", "a = eventTree (wholeDb (s .threshold)) (s .margin) window reference a")]),
+    # a frame at -1,062, which is quiet, would be above it
+    ("the base's predictor has a threshold of -2 dB", "TwoPastsByDefault", [
+        (IVC + "Controller.antt", "threshold = negsuc 999;", "threshold = negsuc 1999;")]),
+    # a ring of 3 records still has one from before after the frames that are counted
+    ("a ring holds 10 records, whatever the windows are", "TwoPasts", [
+        (PREDICTOR + "Estimate.antt", "capacityOf s = capacityIf (s .enabled) (s .delay + s .reference)", "capacityOf s = capacityIf (s .enabled) 10")]),
+    # the base's predictor would be off, and no frame fewer would be too few
+    ("the switch is the predictor's own", "TwoFewerAreTooFew", [
+        (IVC + "Controller.antt", "(PredictorSettings.settingsOf (switched (s .predicts) predictor))", "(PredictorSettings.settingsOf predictor)")]),
 ]
 
 

@@ -1,13 +1,15 @@
 #!/usr/bin/env python3
 """Searches for two pasts that can be told apart: two controllers with equal settings, each with a past of its own, get the same lead-in and then the same calls.
 
-usage: two_pasts.py PROGRAM [PAIRS [SEED [FEWER]]]
+usage: two_pasts.py PROGRAM [PAIRS [SEED [FEWER [modes]]]]
 
 PROGRAM is the driver over the unchanged Rust (`probe` of rust/) or the program of crates/replay. The lead-in is that of document 01: capture switched on; as many quiet frames as it asks for,
 with recommendations and initialises between them; an initialise; a quiet frame with a positive volume and its recommendation. With FEWER there are so many quiet frames less, and pairs that are told
-apart are to be expected. Prints how many calls after the lead-in were compared, and how many pairs were told apart; without FEWER exits with 1 if there is one.
+apart are to be expected. With `modes`, for the program of crates/replay alone, each pair has a predictor of its own, of any mode, on or off, and the lead-in is that of document 02 (iv). Prints how many
+calls after the lead-in were compared, and how many pairs were told apart, with `modes` of each mode; without FEWER exits with 1 if there is one.
 """
 import random
+import struct
 import sys
 
 from calls import bits, frame, normal, run, settings
@@ -15,10 +17,46 @@ from calls import bits, frame, normal, run, settings
 WAIT = 5  # the place of clipped_wait_frames in the command N
 
 
-def quiet(rnd, channels, volume):
-    """Every sample is a number from -29,000 to 29,000."""
+class Base:
+    """The base's predictor, and what document 01 asks of its lead-in: samples from -29,000 to 29,000, and frames as many as the larger of 14 and the clipping wait plus 4."""
+    mode = 1
+    command, fields = "N", []
+    loudest = 29000.0
+
+    def frames(self, wait):
+        return max(14, wait + 4)
+
+
+def rounded(x):
+    """The next 32-bit float below a number above 0, or the one that it is."""
+    y = bits(x)
+    return struct.unpack("<f", struct.pack("<I", y - (struct.unpack("<f", struct.pack("<I", y))[0] > x)))[0]
+
+
+class Any:
+    """A predictor of any mode that a making takes, and what document 02 (iv) asks: no clipped sample, no level above the threshold that the mode compares with, and frames as many as the larger of
+    window - 1 + delay + reference and clipping wait + window - 1."""
+    command = "K"
+
+    def __init__(self, rnd):
+        self.mode, self.window = rnd.randint(0, 2), rnd.choice([1, 1, 2, 3, 5, 9])
+        self.reference, self.delay = rnd.choice([1, 2, 3, 5, 8]), rnd.choice([0, 1, 2, 5, 7])
+        self.delay = max(self.delay, self.window + 1 - self.reference)
+        threshold, margin = rnd.choice([-1000, -1000, -1999, -2500, -500, 0, 700, -6000, -20000, rnd.randint(-90000, 9000)]), rnd.choice([3000, 1000, 0, -4000, rnd.randint(-9000, 9000)])
+        self.fields = [self.mode, self.window, self.reference, self.delay, threshold, margin]
+        whole = abs(threshold) // 1000 * 1000 * (1 if threshold > 0 else -1)
+        compared = threshold if self.mode == 0 else whole
+        # two thousandths below it, since a level is within one of the exact one, and no sample is clipped
+        self.loudest = rounded(min(32766.5, 10 ** ((compared + 90310 - 2) / 20000)))
+
+    def frames(self, wait):
+        return max(self.window - 1 + self.delay + self.reference, wait + self.window - 1)
+
+
+def quiet(rnd, channels, volume, predictor):
+    """Every sample is a number up to the loudest that is quiet."""
     size = rnd.choice([1, 2, 3, 5, 8, 160])
-    loud = rnd.choice([0.0, 100.0, 20000.0, 29000.0])
+    loud = predictor.loudest * rnd.choice([0.0, 0.003, 0.7, 1.0])
     return f"A {volume} " + "".join(f"{bits(rnd.choice([-loud, loud, rnd.uniform(-loud, loud)])):08x}" for _ in range(size * channels))
 
 
@@ -41,25 +79,26 @@ def calls(rnd, channels, count):
     return out
 
 
-def lead_in(rnd, channels, frames):
+def lead_in(rnd, channels, frames, predictor):
     out = ["C 1"]
     while frames > 0:
         if rnd.random() < 0.3:
             out.append(rnd.choice([recommendation(rnd), recommendation(rnd), "I", "C 1"]))
         else:
-            out.append(quiet(rnd, channels, rnd.randint(0, 255)))
+            out.append(quiet(rnd, channels, rnd.randint(0, 255), predictor))
             frames -= 1
-    return out + ["I", quiet(rnd, channels, rnd.randint(1, 255)), recommendation(rnd)]
+    return out + ["I", quiet(rnd, channels, rnd.randint(1, 255), predictor), recommendation(rnd)]
 
 
-def pair(rnd, fewer):
+def pair(rnd, fewer, predictor):
     """The commands of a pair, and how many of the last of each half are compared."""
     channels, made = settings(rnd)
     made[4] = rnd.choice(["3dcccccd", "00000000", "3f000000"])  # a clipped ratio of zero or more
     made[WAIT] = rnd.choice([0, 1, 3, 5, 12, 30])
-    before = lead_in(rnd, channels, max(14, made[WAIT] + 4) - fewer)
+    before = lead_in(rnd, channels, predictor.frames(made[WAIT]) - fewer, predictor)
     after = [c for call in calls(rnd, channels, 30) for c in ([call, "D"] if rnd.random() < 0.3 else [call])]
-    halves = [["N " + " ".join(map(str, made))] + calls(rnd, channels, rnd.choice([0, 3, 20, 60])) + before + after for _ in range(2)]
+    making = " ".join(map(str, [predictor.command, *made, *predictor.fields]))
+    halves = [[making] + calls(rnd, channels, rnd.choice([0, 3, 20, 60])) + before + after for _ in range(2)]
     return halves, len(after)
 
 
@@ -73,17 +112,21 @@ def answer(line):
 
 def main():
     program = sys.argv[1]
-    pairs, seed, fewer = (int(x) for x in (sys.argv[2:] + ["2000", "7", "0"][len(sys.argv) - 2:])[:3])
+    pairs, seed, fewer = (int(x) for x in (sys.argv[2:5] + ["2000", "7", "0"][len(sys.argv) - 2:])[:3])
+    modes = sys.argv[5:] == ["modes"]
     rnd = random.Random(seed)
-    compared = apart = 0
+    compared, apart, of_mode = 0, [0] * 3, [0] * 3
     for _ in range(pairs):
-        halves, count = pair(rnd, fewer)
+        predictor = Any(rnd) if modes else Base()
+        halves, count = pair(rnd, fewer, predictor)
         answers = [[answer(normal(line)) for line in run(program, half)[-count:]] for half in halves]
         assert len(answers[0]) == len(answers[1]) == count
         compared += count
-        apart += answers[0] != answers[1]
-    print(f"pairs {pairs}, calls compared {compared}, told apart {apart}")
-    sys.exit(apart != 0 and fewer == 0)
+        of_mode[predictor.mode] += 1
+        apart[predictor.mode] += answers[0] != answers[1]
+    each = "".join(f", {name} {told} of {count}" for name, told, count in zip(("event", "adaptive", "fixed"), apart, of_mode)) if modes else ""
+    print(f"pairs {pairs}, calls compared {compared}, told apart {sum(apart)}{each}")
+    sys.exit(sum(apart) != 0 and fewer == 0)
 
 
 if __name__ == "__main__":
