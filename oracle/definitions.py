@@ -201,7 +201,7 @@ def types_alone(text):
                 out.pop()
             while lines[i] != "}":
                 i += 1
-        elif not re.match(r"ghost use|use .*::[a-z0-9_]+;", lines[i]):
+        elif not re.match(r"ghost use|(pub )?use .*::[a-z0-9_]+;", lines[i]):
             out.append(lines[i])
         i += 1
     return "\n".join(out) + "\n"

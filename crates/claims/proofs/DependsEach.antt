@@ -6,7 +6,6 @@ use Prim.Native.Nat.{ℕ}
 use native.Mathlib.Omega.{arith}
 use lib.IntN.{natAbs}
 use lib.Ieee.{add, mul, div, lt, le, ofInt, ofBits}
-use Rattle.numbers.specs.declared.natural.Natural.the-variants.{Number}
 use Rattle.numbers.specs.Listed.{listed}
 use Rattle.numbers.specs.Natural.{withinOf}
 use Rattle.levels.specs.Decibels.{minus, less, atMost}

@@ -11,7 +11,7 @@ use Rattle.mono_input_volume_controller.specs.Config.{settingsFrom}
 use Rattle.input_volume_controller.specs.declared.InputVolumeController.{InputVolumeController}
 use Rattle.input_volume_controller.specs.Controller.{Controller, viewOf, basePredictor, makingWith}
 use Rattle.input_volume_controller.specs.Calls.{Call, Answer, after, answers}
-use Rattle.claims.specs.LeadIn.{quiet, LeadIn, callsOf}
+use Rattle.claims.specs.LeadIn.{LeadIn, callsOf}
 use Rattle.claims.specs.TwoPasts.{RatioFromZero, enough}
 use Rattle.claims.specs.Run.{RunIsAfter}
 use Rattle.claims.specs.Made.{MadeAndHad, ThresholdFromZero, AlikeAfterLeadIn, quietIn, enoughIn, TwoPasts, TwoPastsByDefault}

@@ -1,7 +1,7 @@
 -- Two pasts, with the base's predictor: a frame that is quiet in document 01's sense is so for that predictor, and a lead-in by document 01 is one for it. Assumes nothing.
 use mathlib.Core.List.{List, [], _∷_, map, foldl}
 use mathlib.Core.Bool.{Bool, true, false}
-use Prim.Native.Nat.{ℕ, zero, suc, _-_, _*_}
+use Prim.Native.Nat.{ℕ, _-_, _*_}
 use native.Mathlib.Omega.{arith}
 use lib.Dec.{T, lit≤}
 use lib.Ieee.{Float, le, lt, eq}

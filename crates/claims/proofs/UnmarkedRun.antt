@@ -24,15 +24,11 @@ use Rattle.clipping_predictor.specs.Predictor.{Predictor, partOf, levelsOf, pus
 use Rattle.clipping_predictor.specs.AllRings.{noEstimate, joined, predictedBy}
 use Rattle.clipping_predictor.specs.declared.settings.ClippingPredictorConfig.{ClippingPredictorConfig}
 use Rattle.mono_input_volume_controller.specs.declared.config.Config.{Config}
-use Rattle.mono_input_volume_controller.specs.declared.config.Checked.{Checked}
-use Rattle.mono_input_volume_controller.specs.declared.config.Checked.the-variants as Checked
 use Rattle.mono_input_volume_controller.specs.declared.speech_level.SpeechLevel.{SpeechLevel}
 use Rattle.mono_input_volume_controller.specs.MonoState.{maxInputVolume}
-use Rattle.mono_input_volume_controller.specs.Config.{settingsOf}
 use Rattle.input_volume_controller.specs.declared.InputVolumeController.{InputVolumeController}
 use Rattle.input_volume_controller.specs.declared.Applied.{Applied}
 use Rattle.input_volume_controller.specs.declared.Applied.the-variants.{Nothing, Volume}
-use Rattle.clipping_predictor.specs.Predictor.{maxChannels}
 use Rattle.input_volume_controller.specs.ClippedRatio.{clippedRatio}
 use Rattle.input_volume_controller.specs.Controller.{Controller, makingWith}
 use Rattle.input_volume_controller.specs.Reply.{Stepped}

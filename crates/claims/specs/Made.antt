@@ -14,7 +14,7 @@ use Rattle.mono_input_volume_controller.specs.declared.config.Config.{Config}
 use Rattle.mono_input_volume_controller.specs.Config.{settingsFrom}
 use Rattle.input_volume_controller.specs.declared.InputVolumeController.{InputVolumeController}
 use Rattle.input_volume_controller.specs.declared.Created.{Created}
-use Rattle.input_volume_controller.specs.Controller.{Controller, basePredictor, makingWith, makingOf, CreatedWith}
+use Rattle.input_volume_controller.specs.Controller.{Controller, basePredictor, makingWith, CreatedWith}
 use Rattle.input_volume_controller.specs.Calls.{Call, Answer}
 use Rattle.claims.specs.Run.{Run, SoundAlike}
 use Rattle.claims.specs.LeadIn.{quiet, quietFor, LeadIn, callsOf}

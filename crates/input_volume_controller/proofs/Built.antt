@@ -6,9 +6,7 @@ use lib.IntN.{ℤ, pos}
 use lib.ListN.{length, length-replicate}
 use Rattle.numbers.proofs.Listed.{length-listed}
 use borrow.Author.Tests.{le-leb}
-use Rattle.numbers.specs.declared.natural.Natural.{Natural}
 use Rattle.numbers.specs.declared.natural.Natural.the-variants.{Number}
-use Rattle.numbers.specs.declared.refusal.Outcome.{Outcome}
 use Rattle.numbers.specs.Natural.{withinOf, atLeastOf}
 use Rattle.numbers.specs.Said.{outcomeSays}
 use Rattle.clipping_predictor.specs.declared.settings.Checked.{Checked}

@@ -112,7 +112,7 @@ pub record Making : Type 0 where
   pub answer : Outcome
   pub controller : Controller
 
--- what stands beside a refusal: a controller of one channel with the default settings
+-- what stands beside a refusal: a controller of one channel with the default settings and the base's predictor
 abbrev pub unmade : Refusal → Making
 unmade cause = record { answer = Refused cause; controller = fresh (settingsFrom defaults) 1 }
 
