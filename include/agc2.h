@@ -144,7 +144,11 @@ agc2_record agc2_stored_record_by_value(agc2_controller controller, size_t chann
 
 /* A controller of 1 to 8 channels with a predictor of any mode, and its own windows, threshold and margin; or a refusal, which leaves *controller unwritten. First come 1 to 6, and then, whether the
  * predictor is on or off, 7, 14 and 15: window and reference are at least 1 frame, the delay of the reference is at least 0, delay + reference above the window (7) and at most 64 (14), threshold and
- * margin are from -200,000 to 200,000 (15). */
+ * margin are from -200,000 to 200,000 (15).
+ *
+ *     agc2_predictor_config predictor = agc2_default_predictor_config();
+ *     predictor.mode = AGC2_CLIPPING_EVENT_PREDICTION;
+ *     refusal = agc2_new_with_predictor(&controller, 1, agc2_default_config(), predictor); */
 static inline uint32_t agc2_new_with_predictor(agc2_controller *controller, int32_t num_capture_channels, agc2_config config, agc2_predictor_config predictor) {
     agc2_controller made = agc2_new_with_predictor_by_value(num_capture_channels, config, predictor);
     if (made.refusal == AGC2_ACCEPTED) {

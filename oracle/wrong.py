@@ -25,7 +25,7 @@ FACTS = [
 SOUGHT = r"`search`: no proof of|`rw`: no occurrence of the path's left endpoint"
 
 # What is left of a refused declaration wherever it is named, and of a function wherever it is called: says nothing by itself.
-FOLLOWS = r"was not admitted \(|declarations that were not admitted"
+FOLLOWS = r"was not admitted \(|declarations that were not admitted|cannot be unfolded because it was not admitted"
 
 # Any other error is a file that cannot be read as it stands: `error[..]` of the compiler, a line that starts at a wrong column, a name that is not there ("is not in scope", "that can be named
 # from here"), a proof file that no longer fits its function ("has no field `if1`", "has no `Need-returns-4`"), a definition without a clause. It takes the word of all else in that file.

@@ -138,6 +138,15 @@ impl InputVolumeController {
 
     /// A controller of 1 to 8 channels with a predictor of any mode. Refuses with causes 1 to 6, and then, whether the predictor is on or off, with 7,
     /// 14 and 15. Whether it is on is said by [`Config::enable_clipping_predictor`].
+    ///
+    /// ```
+    /// use agc2::{ClippingPredictorConfig, ClippingPredictorMode, Config, InputVolumeController, Refusal};
+    ///
+    /// let mode = ClippingPredictorMode::ClippingEventPrediction;
+    /// let predictor = ClippingPredictorConfig { mode, clipping_threshold: -2500, ..ClippingPredictorConfig::default() };
+    /// let mut controller = InputVolumeController::with_predictor(1, Config::default(), predictor)?;
+    /// # Ok::<(), Refusal>(())
+    /// ```
     pub fn with_predictor(num_capture_channels: i32, config: Config, predictor: ClippingPredictorConfig) -> Result<Self, Refusal> {
         // SAFETY: the function takes any numbers.
         let made = unsafe { raw::agc2_new_with_predictor_by_value(num_capture_channels, config.in_numbers(), predictor.in_numbers()) };
