@@ -57,7 +57,7 @@ pub record Claims : Type 0 where
   pub two-pasts : TwoPasts
   pub two-pasts-by-default : TwoPastsByDefault
   pub two-pasts-in-every-mode : TwoPastsInEveryMode
-  -- that claim is not empty, and asks for one frame more than it needs, since the last one counts too: lead-ins exist, one frame fewer does, two do not, in no mode, and no part may be left out
+  -- that claim is not empty, and asks for one frame more than it needs, since the last one counts too: lead-ins exist, one frame fewer does, in every mode, two do not, in any, and no part may be left out
   pub lead-ins-exist : LeadInsExist
   pub accepted-is-not-refused : AcceptedIsNotRefused
   pub one-fewer-is-enough : OneFewerIsEnough
