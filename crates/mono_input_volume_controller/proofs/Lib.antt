@@ -5,5 +5,6 @@ pub mod Paths
 pub mod Kept
 pub mod Users
 pub mod Ceiling
+pub mod ClippingSteps
 pub mod OneRounding
 pub mod Says

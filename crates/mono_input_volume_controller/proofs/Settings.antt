@@ -68,7 +68,7 @@ module _ (x : Float) where
 
 -- ---- what the tests give
 
-both-true : (a b : Bool) → (a && b) ≡ true → (a ≡ true) × (b ≡ true)
+pub both-true : (a b : Bool) → (a && b) ≡ true → (a ≡ true) × (b ≡ true)
 both-true true b e = (refl, e)
 both-true false b e = clash (sym e)
 

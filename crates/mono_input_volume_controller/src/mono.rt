@@ -1,8 +1,10 @@
 // One channel's controller, by value: each call hands the new state back. Ports `MonoInputVolumeController`; its `new` stands with the controller of all channels, which tests the settings.
 ghost use mathlib.Core.Path.{_≡_};
+ghost use mathlib.Core.Bool.{not};
 ghost use Prim.Native.Nat.{_+_, _≤_};
 ghost use Rattle.mono_input_volume_controller.specs.MonoState.{maxWait, Good, Becomes};
 ghost use Rattle.mono_input_volume_controller.specs.Mono.{initialized, checkAsked, handledCaptureOutputUsedChange, withStreamAnalogLevel, isUsers, takenFromUser, withInputVolume, handledClipping};
+ghost use Rattle.mono_input_volume_controller.specs.SameVolumes.{sameVolumes};
 ghost use Rattle.mono_input_volume_controller.specs.MonoProcess.{staysMuted, checkedVolumeAndReset, settled, heldError, updatedInputVolume, corrected, speechFrames, mayAct, waited, counted, processed};
 use crate::speech_level::RmsError;
 
@@ -93,6 +95,19 @@ fn hold_error(error: i32) -> i32
         return MAX_ABS_RMS_ERROR_DBFS;
     }
     error
+}
+
+// Whether a volume of two states differs.
+pub fn other_volumes(a: MonoInputVolumeController, b: MonoInputVolumeController) -> bool
+    ensures { λ r. ⌜ r ≡ not (sameVolumes a b) ⌝ }
+{
+    if a.ceiling != b.ceiling {
+        return true;
+    }
+    if a.last != b.last {
+        return true;
+    }
+    a.volume != b.volume
 }
 
 impl MonoInputVolumeController {
