@@ -179,8 +179,8 @@ static inline uint32_t agc2_analyze_input_audio(agc2_controller *controller, int
     return controller->refusal;
 }
 
-/* 1 if an estimate of the last frame compared two levels so close, six thousandths of a dB apart or less, that the original, which rounds logarithms, may have
- * decided otherwise, else 0; 0 after a refused frame. What follows may then differ from the original without a mark. */
+/* 1 if the last frame compared levels so close, six thousandths of a dB apart or less, that the original, which rounds logarithms, may have decided otherwise
+ * and so left another state, else 0; 0 after a refused frame. What follows may then differ from the original without a mark. */
 static inline uint32_t agc2_near(const agc2_controller *controller) {
     return controller->near;
 }

@@ -22,6 +22,7 @@ RING = "crates/clipping_predictor_level_buffer/specs/"
 PREDICTOR = "crates/clipping_predictor/specs/"
 IVC = "crates/input_volume_controller/specs/"
 LIBRARY = "crates/agc2/specs/"
+MARKED = "reply = mark (differ clipped (c .control) (e .low) (e .high));"
 RECOMMENDED = "reply = volume (pos (processChannels probability level (c .control) .volume));"
 
 # What is wrong, the claim that is false of it, and for each file the text that is replaced and what replaces it. More claims may fall, since a proof may use more than its claim says:
@@ -61,7 +62,7 @@ EDITS = [
         (RING + "Ring.antt", "use lib.ListN.{length, getD, take}", "use lib.ListN.{length, getD, take, replicate}"),
         (RING + "Ring.antt", "push capacity level records = take capacity (level ∷ records)", "push capacity level records = take capacity ((level ∷ records) ++ replicate capacity noLevel)")]),
     ("a mark on every answer", "MarkedExactly", [
-        (IVC + "Frame.antt", "handled clipped e c = record { reply = mark (e .near);", "handled clipped e c = record { reply = mark true;"),
+        (IVC + "Frame.antt", MARKED, "reply = mark true;"),
         (IVC + "Frame.antt", "reply = mark false; state = record { control = oneFrameMore", "reply = mark true; state = record { control = oneFrameMore"),
         (IVC + "Frame.antt", "false samples lent c = record { reply = mark false; state = c }", "false samples lent c = record { reply = mark true; state = c }")]),
     # ---- document 01, "What a hurried port would do"
@@ -175,6 +176,25 @@ EDITS = [
     # the base's predictor would be off, and no frame fewer would be too few
     ("the switch is the predictor's own", "TwoFewerAreTooFew", [
         (IVC + "Controller.antt", "(PredictorSettings.settingsOf (switched (s .predicts) predictor))", "(PredictorSettings.settingsOf predictor)")]),
+    # ---- document 02 (iii)
+    # drops that are both held at the minimum return one state
+    ("a frame is marked by its drops", "MarkedExactly", [
+        (IVC + "Frame.antt", MARKED, "reply = mark (ltb (e .low) (e .high));")]),
+    ("no frame is marked", "UnmarkedIsExact", [
+        (IVC + "Frame.antt", MARKED, "reply = mark false;")]),
+    ("rings that are emptied or not do not matter", "MarkedExactly", [
+        (IVC + "Differ.antt", "differIf false true differently = true", "differIf false true differently = differently"),
+        (IVC + "Differ.antt", "differIf true false differently = true", "differIf true false differently = differently")]),
+    # silence at a threshold 5 above it, with a margin of 5: none, and a drop with both comparisons turned
+    ("a turn after a turn is not counted", "MarkedExactly", [
+        (PREDICTOR + "Turned.antt", "tested true true held failed = beside held failed", "tested true true held failed = beside held (only (failed .drop))"),
+        (PREDICTOR + "Turned.antt", "tested false true held failed = beside failed held", "tested false true held failed = beside failed (only (held .drop))")]),
+    ("the other side of a near ceiling is forgotten", "UnmarkedIsExact", [
+        (PREDICTOR + "Estimate.antt", "(ltb k maxGainChange && near (Finite z) (Finite (pos (k * 1000))))", "(ltb k maxGainChange && near NotANumber (Finite (pos (k * 1000))))")]),
+    # another channel's sure drop may be larger than both of a turn
+    ("the least drop of all channels counts, not the largest of their least", "MarkedExactly", [
+        (PREDICTOR + "AllRings.antt", "use Prim.Native.Nat.{ℕ, max}", "use Prim.Native.Nat.{ℕ, min, max}"),
+        (PREDICTOR + "AllRings.antt", "low = max (a .low) (b .low); high", "low = min (a .low) (b .low); high")]),
 ]
 
 

@@ -110,8 +110,8 @@ impl Config {
 /// A frame that was taken.
 #[derive(Debug, Clone, Copy, PartialEq, Eq)]
 pub struct Accepted {
-    /// Whether an estimate of it compared two levels so close, six thousandths of a dB apart or less, that the original, which rounds logarithms, may have
-    /// decided otherwise. What follows may then differ from the original without a mark.
+    /// Whether it compared levels so close, six thousandths of a dB apart or less, that the original, which rounds logarithms, may have decided otherwise and so
+    /// left another state. What follows may then differ from the original without a mark.
     pub near: bool,
 }
 

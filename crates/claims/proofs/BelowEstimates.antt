@@ -13,7 +13,8 @@ use Rattle.numbers.specs.declared.natural.Natural.{Natural}
 use Rattle.numbers.specs.declared.natural.Natural.the-variants.{Number, Outside}
 use Rattle.numbers.specs.Natural.{withinOf}
 use Rattle.numbers.specs.Said.{refusalIn}
-use Rattle.clipping_predictor.specs.Estimate.{estimateTree, estimated}
+use Rattle.clipping_predictor.specs.Turned.{estimated, isNear}
+use Rattle.clipping_predictor.specs.Estimate.{estimateTree}
 use Rattle.clipping_predictor.specs.Predictor.{Predictor}
 use Rattle.clipping_predictor.specs.EstimateCall.{dropOr, givenIf, given, argumentsOf, estimateSays, estimateOf}
 use Rattle.clipping_predictor.specs.declared.modes.Asked.{Asked}
@@ -30,7 +31,7 @@ drop-accepted (suc n) near = refl
 
 given-first : (p : Predictor) (a b : Bool) (channel : ℕ) (q : Asked) → refusalIn (estimateSays (estimateOf p (givenIf (a && b) channel q))) ≡ firstOf (eightTen false (not a || not b))
 unfolding estimateOf
-given-first p true true channel q = let e = estimated (estimateTree (p .settings) (getD (p .rings) channel []) q) in drop-accepted (e .drop) (e .near)
+given-first p true true channel q = let e = estimated (estimateTree (p .settings) (getD (p .rings) channel []) q) in drop-accepted (e .drop) (isNear e)
 given-first p true false channel q = refl
 given-first p false b channel q = refl
 

@@ -9,7 +9,7 @@ use Rattle.claims.proofs.Bounds.{bounds}
 use Rattle.claims.proofs.Broken.{broken-leaves}
 use Rattle.claims.proofs.Levels.{levels-within-one}
 use Rattle.claims.proofs.Marked.{marked-exactly}
-use Rattle.claims.proofs.Unmarked.{unmarked-is-exact}
+use Rattle.claims.proofs.UnmarkedFrame.{unmarked-is-exact}
 use Rattle.claims.proofs.UnmarkedRun.{unmarked-run-is-exact}
 use Rattle.claims.proofs.TwoPasts.{one-fewer-is-enough}
 use Rattle.claims.proofs.Free.{free-is-unheard}

@@ -8,7 +8,7 @@ use lib.IntN.{natAbs}
 use lib.Ieee.{add, mul, div, lt, le, ofInt, ofBits}
 use Rattle.numbers.specs.Listed.{listed}
 use Rattle.numbers.specs.Natural.{withinOf}
-use Rattle.levels.specs.Decibels.{minus, less, atMost}
+use Rattle.levels.specs.Decibels.{minus, less, atMost, within}
 use Rattle.levels.specs.FloatParts.{magnitudeOf}
 use Rattle.levels.specs.Level as Decibel
 use Rattle.levels.specs.Level.{dbfs}
@@ -17,7 +17,7 @@ use Rattle.gain_map.specs.VolumeUpdate.{walk}
 use Rattle.clipping_predictor_level_buffer.specs.Level.{frameRecord}
 use Rattle.clipping_predictor_level_buffer.specs.Metrics.{metricsOver, partialMetrics}
 use Rattle.clipping_predictor_level_buffer.specs.Statistics.{plusZero, sum, mean, largest}
-use Rattle.clipping_predictor.specs.Tree.{reached}
+use Rattle.clipping_predictor.specs.Turned.{estimated}
 use Rattle.clipping_predictor.specs.Estimate.{dropBy, adaptiveDrop, estimateTree}
 use Rattle.clipping_predictor.specs.Predictor.{pushEach, frameFits}
 use Rattle.mono_input_volume_controller.specs.declared.config.Config.{Config}
@@ -127,7 +127,7 @@ record Examples : Type 0 where
   by-pending-volume : Example pendingVolume
 
 examples : Examples
-unfolding saidBy lastIn shown listed withinOf minus less atMost magnitudeOf Decibel.levelOf dbfs gain walk frameRecord metricsOver partialMetrics sum mean largest dropBy adaptiveDrop estimateTree pushEach frameFits reached after answers called aggregateOf countOf clippedIn mostClipped clippedRatio rmsErrorOf isUsers defaults settingsFrom settingsOf withAppliedInputVolume initialize lowerChannels analyzeInputAudio recommendInputVolume ofInt ofBits add mul div lt le
+unfolding saidBy lastIn shown listed withinOf minus less atMost within magnitudeOf Decibel.levelOf dbfs gain walk frameRecord metricsOver partialMetrics sum mean largest dropBy adaptiveDrop estimateTree pushEach frameFits estimated after answers called aggregateOf countOf clippedIn mostClipped clippedRatio rmsErrorOf isUsers defaults settingsFrom settingsOf withAppliedInputVolume initialize lowerChannels analyzeInputAudio recommendInputVolume ofInt ofBits add mul div lt le
 examples = record {
   -- a clipped frame has started the wait, which is of one frame or of 300
   by-settings = record {
@@ -247,7 +247,7 @@ record Open : Type 0 where
   other-shows : standing unraised .control .volume ≡ 10
 
 open-volume : Open
-unfolding listed withinOf minus less atMost magnitudeOf Decibel.levelOf dbfs frameRecord metricsOver partialMetrics sum mean largest dropBy adaptiveDrop estimateTree pushEach frameFits reached after called aggregateOf countOf clippedIn mostClipped clippedRatio defaults settingsFrom settingsOf withAppliedInputVolume initialize lowerChannels analyzeInputAudio ofInt ofBits add mul div lt le
+unfolding listed withinOf minus less atMost magnitudeOf Decibel.levelOf dbfs frameRecord metricsOver partialMetrics sum mean largest dropBy adaptiveDrop estimateTree pushEach frameFits estimated after called aggregateOf countOf clippedIn mostClipped clippedRatio defaults settingsFrom settingsOf withAppliedInputVolume initialize lowerChannels analyzeInputAudio ofInt ofBits add mul div lt le
 open-volume = record {
   agree = record { in-settings = λ h. (refl, refl); in-one-channel = λ h. refl; in-rings = λ h. refl; in-since-clipping = λ h. refl; in-pending-volume = λ h. refl };
   one-taken = refl;

@@ -15,11 +15,12 @@ use Rattle.levels.specs.declared.decibels.Decibels.{Decibels}
 use Rattle.levels.specs.declared.decibels.Decibels.the-variants.{Finite, PlusInfinity, MinusInfinity, NotANumber}
 use Rattle.levels.specs.Decibels.{near, nearDistance, atMost}
 use Rattle.clipping_predictor.specs.declared.modes.Asked.{Asked}
-use Rattle.clipping_predictor.specs.Tree.{Tree, leaf, test, reached, marked}
+use Rattle.clipping_predictor.specs.Tree.{Tree, leaf, test}
+use Rattle.clipping_predictor.specs.Turned.{Turned}
 use Rattle.clipping_predictor.specs.Estimate.{dropBy, adaptiveDrop, maxGainChange, nearestWhole, ceilingTree, adaptiveTree}
 use Rattle.claims.specs.Exact as E
 use Rattle.claims.specs.Exact.{Exact, plusInfinity, minusInfinity, notANumber}
-use Rattle.claims.specs.Unmarked.{Turned}
+use Rattle.clipping_predictor.proofs.Turns.{turned-way}
 use Rattle.claims.proofs.Differences.{Diff}
 use Rattle.claims.proofs.Apart.{Around, Close, most-apart, far-yes, far-no, close-constant}
 
@@ -27,15 +28,11 @@ use Rattle.claims.proofs.Apart.{Around, Close, most-apart, far-yes, far
 
 -- A test that has the exact outcome x unless it is near leads to what x chooses, if both ways do.
 pub turned-test : {A : Type 0} (o n x : Bool) (held failed : Tree A) (a b : A) → (n ≡ false → o ≡ x) → (x ≡ true → Turned held a) → (x ≡ false → Turned failed b) → Turned (test o n held failed) (cond x a b)
-unfolding Turned
-turned-test true false true held failed a b e f g = f refl
-turned-test true false false held failed a b e f g = clash (e refl)
-turned-test false false true held failed a b e f g = clash (sym (e refl))
-turned-test false false false held failed a b e f g = g refl
-turned-test true true true held failed a b e f g = inl (f refl)
-turned-test true true false held failed a b e f g = inr (g refl)
-turned-test false true true held failed a b e f g = inl (f refl)
-turned-test false true false held failed a b e f g = inr (g refl)
+turned-test {A} o n x held failed a b e f g = turned-way held failed (cond x a b) o n x (λ h. sym (e h)) (chosen x f g)
+  where
+    chosen : (x : Bool) → (x ≡ true → Turned held a) → (x ≡ false → Turned failed b) → Turned (cond x held failed) (cond x a b)
+    chosen true f g = f refl
+    chosen false f g = g refl
 
 pub turned-leaf : {A : Type 0} (a : A) → Turned (leaf a) a
 unfolding Turned
@@ -46,15 +43,6 @@ turned-both : {A : Type 0} (o : Bool) (u v a : A) → u ≡ a → v ≡ a → Tu
 unfolding Turned
 turned-both true u v a e f = e
 turned-both false u v a e f = f
-
--- with no near test on the way, what is turned is what is reached
-pub unmarked-reached : {A : Type 0} (t : Tree A) (a : A) → Turned t a → marked t ≡ false → reached t ≡ a
-unfolding Turned marked reached
-unmarked-reached (leaf b) a r m = r
-unmarked-reached (test true false held failed) a r m = unmarked-reached held a r m
-unmarked-reached (test false false held failed) a r m = unmarked-reached failed a r m
-unmarked-reached (test true true held failed) a r m = clash m
-unmarked-reached (test false true held failed) a r m = clash m
 
 -- ---- the exact ceiling
 

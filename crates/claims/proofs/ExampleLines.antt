@@ -10,7 +10,7 @@ use Rattle.frame_lines.specs.Lines.{linesOf}
 use Rattle.frame_lines.specs.Answer.{digitCharacter, decimal, volumeText, numberText}
 use Rattle.clipping_predictor_level_buffer.specs.Metrics.{partialMetrics}
 use Rattle.clipping_predictor.specs.Settings as Predictors
-use Rattle.clipping_predictor.specs.Tree.{reached, marked}
+use Rattle.clipping_predictor.specs.Turned.{estimated}
 use Rattle.clipping_predictor.specs.Estimate.{estimateTree}
 use Rattle.clipping_predictor.specs.Predictor.{pushEach, frameFits}
 use Rattle.mono_input_volume_controller.specs.Config.{defaults, settingsOf}
@@ -19,6 +19,7 @@ use Rattle.input_volume_controller.specs.ClippedRatio.{countOf, clippedIn, most
 use Rattle.input_volume_controller.specs.Channels.{called, aggregateOf}
 use Rattle.input_volume_controller.specs.ControlCalls.{withAppliedInputVolume, lowerChannels}
 use Rattle.input_volume_controller.specs.Controller.{makingWith}
+use Rattle.input_volume_controller.specs.Differ.{differ}
 use Rattle.input_volume_controller.specs.Frame.{analyzeInputAudio}
 use Rattle.input_volume_controller.specs.Recommendation.{recommendInputVolume}
 use Rattle.frame_answers.specs.LineStep.{volumeIn, lineStep}
@@ -27,5 +28,5 @@ use Rattle.claims.specs.ExampleLines.{bytesOf, ExampleLines}
 
 -- THE CLAIM
 pub example-lines : ExampleLines
-unfolding bytesOf linesOf isDigit digit areDigits numberAfter signed16 areSamples samplesIn headIsGood isFramed isWellFormed fieldsOf meaning digitCharacter decimal volumeText numberText textOf textOfLines startController outputOf lineStep volumeIn makingWith Predictors.settingsOf Predictors.checked Predictors.levelsInRange atLeastOf defaults settingsOf analyzeInputAudio recommendInputVolume withinOf listed frameFits countOf clippedIn mostClipped clippedRatio called isUsers aggregateOf withAppliedInputVolume lowerChannels pushEach partialMetrics estimateTree reached marked ofInt ofBits div le
+unfolding bytesOf linesOf isDigit digit areDigits numberAfter signed16 areSamples samplesIn headIsGood isFramed isWellFormed fieldsOf meaning digitCharacter decimal volumeText numberText textOf textOfLines startController outputOf lineStep volumeIn makingWith Predictors.settingsOf Predictors.checked Predictors.levelsInRange atLeastOf defaults settingsOf analyzeInputAudio recommendInputVolume withinOf listed frameFits countOf clippedIn mostClipped clippedRatio called isUsers aggregateOf withAppliedInputVolume lowerChannels pushEach partialMetrics estimateTree estimated differ ofInt ofBits div le
 example-lines = refl

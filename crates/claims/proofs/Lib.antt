@@ -23,6 +23,8 @@ pub mod Differences
 pub mod Apart
 pub mod ExactCeiling
 pub mod Unmarked
+pub mod MayEstimate
+pub mod UnmarkedFrame
 pub mod UnmarkedRun
 pub mod GainTable
 pub mod Starred

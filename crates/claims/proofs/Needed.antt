@@ -8,7 +8,7 @@ use lib.Ieee.{add, mul, div, lt, le, eq, ofInt, ofBits}
 use lib.ListN.{length, replicate}
 use Rattle.numbers.specs.Listed.{listed}
 use Rattle.numbers.specs.Natural.{withinOf}
-use Rattle.levels.specs.Decibels.{minus, less, atMost}
+use Rattle.levels.specs.Decibels.{minus, less, atMost, within}
 use Rattle.levels.specs.FloatParts.{magnitudeOf}
 use Rattle.levels.specs.Level as Decibel
 use Rattle.levels.specs.Level.{dbfs}
@@ -18,7 +18,7 @@ use Rattle.clipping_predictor_level_buffer.specs.declared.level.Level.{Level}
 use Rattle.clipping_predictor_level_buffer.specs.Level.{frameRecord}
 use Rattle.clipping_predictor_level_buffer.specs.Metrics.{metricsOver, partialMetrics}
 use Rattle.clipping_predictor_level_buffer.specs.Statistics.{plusZero, sum, mean, largest}
-use Rattle.clipping_predictor.specs.Tree.{reached}
+use Rattle.clipping_predictor.specs.Turned.{estimated}
 use Rattle.clipping_predictor.specs.Estimate.{dropBy, adaptiveDrop, estimateTree}
 use Rattle.clipping_predictor.specs.Predictor.{pushEach, frameFits}
 use Rattle.mono_input_volume_controller.specs.declared.config.Settings.{Settings}
@@ -105,7 +105,7 @@ record Shown : Type 0 where
   unkept : storedIn (after-calls (withCaptureOff lead) (initialise ∷ [])) ≡ 1
 
 computed : Shown
-unfolding volumeIn lengthOf storedIn after-calls past-clipped past-started lead listed withinOf minus less atMost magnitudeOf Decibel.levelOf dbfs gain walk frameRecord metricsOver partialMetrics sum mean largest dropBy adaptiveDrop estimateTree pushEach frameFits reached after answers called aggregateOf countOf clippedIn mostClipped clippedRatio rmsErrorOf isUsers defaults settingsFrom withAppliedInputVolume initialize lowerChannels analyzeInputAudio recommendInputVolume ofInt ofBits add mul div lt le
+unfolding volumeIn lengthOf storedIn after-calls past-clipped past-started lead listed withinOf minus less atMost within magnitudeOf Decibel.levelOf dbfs gain walk frameRecord metricsOver partialMetrics sum mean largest dropBy adaptiveDrop estimateTree pushEach frameFits estimated after answers called aggregateOf countOf clippedIn mostClipped clippedRatio rmsErrorOf isUsers defaults settingsFrom withAppliedInputVolume initialize lowerChannels analyzeInputAudio recommendInputVolume ofInt ofBits add mul div lt le
 computed = record { lowered = refl; unlowered = refl; muted = refl; unmuted = refl; kept = refl; unkept = refl }
 
 -- THE CLAIM

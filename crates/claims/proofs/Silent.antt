@@ -26,9 +26,11 @@ use Rattle.clipping_predictor.specs.declared.settings.Settings.{Settings}
 use Rattle.clipping_predictor.specs.declared.modes.Asked.{Asked}
 use Rattle.clipping_predictor.specs.declared.modes.Estimated.{Estimated}
 use Rattle.clipping_predictor.specs.Tree.{Tree, leaf, test, reached}
-use Rattle.clipping_predictor.specs.Estimate.{modeTree, capacityOf, windowsTree, unlessLow, estimateTree, estimated}
+use Rattle.clipping_predictor.specs.Turned.{estimated}
+use Rattle.clipping_predictor.specs.Estimate.{modeTree, capacityOf, windowsTree, unlessLow, estimateTree}
 use Rattle.clipping_predictor.specs.Predictor.{Predictor}
 use Rattle.clipping_predictor.specs.AllRings.{joined, predictedBy}
+use Rattle.clipping_predictor.proofs.Turns.{drop-reached}
 use Rattle.claims.specs.LeadIn.{all, comparedIn, isLow}
 use Rattle.claims.proofs.Lists.{and-l, and-r, all-take}
 use Rattle.claims.proofs.Rings.{Match}
@@ -136,11 +138,11 @@ module _ (p : Settings) (a : Asked) where
   none-joined capacity m k e (r ∷ rings) [] z w l h = absurd h
   none-joined capacity m k e (r ∷ rings) (g ∷ grown) z w l h =
       none-joined capacity m k (joined e (estimateOf r)) rings grown
-      (let q = estimate-none r w (subst (λ (x : List Level). T (all (isLow p) x)) (take-take (p .window) k r l) (all-take (isLow p) (p .window) (take k r) (h .1))) in omega (arith, z, q)) w l (h .2)
+      (let q = estimate-none r w (subst (λ (x : List Level). T (all (isLow p) x)) (take-take (p .window) k r l) (all-take (isLow p) (p .window) (take k r) (h .1))) in omega (arith, z, q, drop-reached (estimateTree p r a))) w l (h .2)
 
 -- THE LAW
 pub none-predicted : (p : Settings) (a : Asked) (q : Predictor) (capacity m k : ℕ) (grown : List (List Level)) → q .settings ≡ p → 1 ≤ p .window → p .window ≤ k
     → Match (isLow p) capacity m k (q .rings) grown → predictedBy a q .drop ≡ 0
-unfolding predictedBy reached
+unfolding predictedBy estimated
 none-predicted p a q capacity m k grown e w l h =
     ap (λ (x : Settings). predictedBy a (record { settings = x; rings = q .rings }) .drop) e ∙ none-joined p a capacity m k (estimated (leaf 0)) (q .rings) grown refl w l h

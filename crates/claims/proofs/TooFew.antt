@@ -13,7 +13,7 @@ use Rattle.numbers.specs.declared.refusal.Outcome.the-variants.{Accepted}
 use Rattle.numbers.specs.First.{first, searched}
 use Rattle.numbers.specs.Listed.{listed}
 use Rattle.numbers.specs.Natural.{withinOf, atLeastOf}
-use Rattle.levels.specs.Decibels.{minus, less, atMost}
+use Rattle.levels.specs.Decibels.{minus, less, atMost, within}
 use Rattle.levels.specs.FloatParts.{magnitudeOf}
 use Rattle.levels.specs.Level as Decibel
 use Rattle.levels.specs.Level.{dbfs}
@@ -29,7 +29,7 @@ use Rattle.clipping_predictor.specs.declared.settings.ClippingPredictorConfig.{
 use Rattle.clipping_predictor.specs.declared.settings.Settings as Predictor
 use Rattle.clipping_predictor.specs.declared.settings.Checked.the-variants as PredictorChecked
 use Rattle.clipping_predictor.specs.Settings as Predictors
-use Rattle.clipping_predictor.specs.Tree.{reached}
+use Rattle.clipping_predictor.specs.Turned.{estimated}
 use Rattle.clipping_predictor.specs.Estimate.{dropBy, adaptiveDrop, estimateTree}
 use Rattle.clipping_predictor.specs.Predictor.{pushEach, frameFits}
 use Rattle.mono_input_volume_controller.specs.declared.config.Config.{Config}
@@ -218,7 +218,7 @@ record Computed : Type 0 where
   fixed : Shown FixedStepClippingPeakPrediction
 
 computed : Computed
-unfolding shownBy shown lengthOf twelve three-hundred-two three nine smallLead lead listed withinOf minus less atMost magnitudeOf Decibel.levelOf dbfs gain gainMap walk first searched frameRecord metricsOver partialMetrics sum mean largest dropBy adaptiveDrop estimateTree pushEach frameFits reached after answers called aggregateOf countOf clippedIn mostClipped clippedRatio defaults settingsFrom withAppliedInputVolume initialize lowerChannels analyzeInputAudio recommendInputVolume ofInt ofBits add mul div lt le callsOf
+unfolding shownBy shown lengthOf twelve three-hundred-two three nine smallLead lead listed withinOf minus less atMost within magnitudeOf Decibel.levelOf dbfs gain gainMap walk first searched frameRecord metricsOver partialMetrics sum mean largest dropBy adaptiveDrop estimateTree pushEach frameFits estimated after answers called aggregateOf countOf clippedIn mostClipped clippedRatio defaults settingsFrom withAppliedInputVolume initialize lowerChannels analyzeInputAudio recommendInputVolume ofInt ofBits add mul div lt le callsOf
 computed = record {
   filling = record { with-past = refl; without = refl };
   waiting = record { with-past = refl; without = refl };

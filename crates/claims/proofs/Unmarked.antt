@@ -1,4 +1,4 @@
--- An unmarked estimate decides as exact logarithms would, and any other as they would after a turn of near tests. Assumes nothing.
+-- What exact logarithms decide is what an estimate can come to by turns of near tests. Assumes nothing.
 use mathlib.Core.Path.{_≡_}
 use mathlib.Core.Bool.{Bool, true, false, _&&_, cond}
 use mathlib.Core.List.{List, [], _∷_, map, foldl}
@@ -23,14 +23,15 @@ use Rattle.clipping_predictor.specs.declared.settings.ClippingPredictorMode.the
 use Rattle.clipping_predictor.specs.declared.settings.Settings.{Settings}
 use Rattle.clipping_predictor.specs.declared.modes.Asked.{Asked}
 use Rattle.clipping_predictor.specs.Tree.{Tree, leaf, test, ifLess}
+use Rattle.clipping_predictor.specs.Turned.{Turned}
 use Rattle.clipping_predictor.specs.Estimate as P
 use Rattle.clipping_predictor.specs.Estimate.{dropBy, adaptiveDrop, wholeDb, eventTree, peakTree, aboveTree, modeTree, windowsTree, unlessLow, capacityOf, estimateTree}
 use Rattle.claims.specs.Exact as E
 use Rattle.claims.specs.Every.{Every}
-use Rattle.claims.specs.Unmarked.{Turned, PeakFits, UnmarkedIsExact}
+use Rattle.claims.specs.Unmarked.{PeakFits}
 use Rattle.claims.proofs.Every.{every-drop, every-take}
 use Rattle.claims.proofs.Apart.{Close, close-plus, close-minus, less-apart, most-apart, close-constant, close-level}
-use Rattle.claims.proofs.ExactCeiling.{turned-test, turned-leaf, unmarked-reached, turned-adaptive}
+use Rattle.claims.proofs.ExactCeiling.{turned-test, turned-leaf, turned-adaptive}
 
 -- ---- the metrics are 32-bit floats
 
@@ -160,10 +161,6 @@ module _ (e : ℕ) (some : 1 ≤ e) (room : e + e + (e + e) ≤ nearDistance) wh
       turned-low (leb (a .level) (a .least)) (windowsTree s a m r) (E.windowsDrop s a m r)
       (turned-windows s a m r (partial-fit (capacityOf s) records 0 (s .window) f) (partial-fit (capacityOf s) records (s .delay) (s .reference) f))
 
--- THE CLAIM, at the tolerance that levels are proved within
-pub unmarked-is-exact : UnmarkedIsExact
-unmarked-is-exact =
-    let turned = turned-estimate tolerance (lit≤ tt) (lit≤ tt) in record {
-      turned = turned;
-      unmarked = λ s records a f m. unmarked-reached (estimateTree s records a) (E.exactDrop s records a) (turned s records a f) m;
-    }
+-- THE LAW, at the tolerance that levels are proved within
+pub exact-turned : (s : Settings) (records : List Level) (a : Asked) → Every PeakFits records → Turned (estimateTree s records a) (E.exactDrop s records a)
+exact-turned = turned-estimate tolerance (lit≤ tt) (lit≤ tt)

@@ -46,9 +46,9 @@ pub record Claims : Type 0 where
   pub broken : BrokenLeaves
   -- the level functions are within one thousandth
   pub levels : LevelsWithinOne
-  -- an estimate is marked exactly if a comparison that it reached was near, a frame exactly if one of its estimates is, a recommendation never
+  -- a frame is marked exactly if turns of near comparisons and ceilings would change the state that it returns, an estimate exactly if they would change its drop or none, a recommendation never
   pub marked : MarkedExactly
-  -- an estimate without a near mark decides as exact logarithms would, and a run without one goes as they would have it go. Exact are the logarithms: means and peaks are the rounded floats that the
+  -- unmarked means exact: an estimate without a mark has the drop, and a frame without one returns the state, that exact logarithms lead to, and a run without one goes as they would have it go. Exact are the logarithms: means and peaks are the rounded floats that the
   -- definition asks for, and a value at 1 or below counts as 1
   pub unmarked : UnmarkedIsExact
   pub unmarked-run : UnmarkedRunIsExact

@@ -2,35 +2,20 @@
 -- frame. What is exact are the logarithms: means and peaks are the rounded floats that the definition asks for, and a value at 1 or below counts as 1. Definitions only.
 use mathlib.Core.Path.{_≡_}
 use mathlib.Core.Bool.{false}
-use mathlib.Core.List.{List, [], _∷_, map, foldl}
-use Prim.Native.Nat.{ℕ, max}
+use mathlib.Core.List.{List, [], _∷_}
 use lib.IntN.{ℤ}
-use lib.Ieee.{Float}
-use Rattle.clipping_predictor_level_buffer.specs.declared.level.Level.{Level}
-use Rattle.clipping_predictor.specs.declared.modes.Asked.{Asked}
-use Rattle.clipping_predictor.specs.declared.modes.Estimated.{Estimated}
-use Rattle.clipping_predictor.specs.Predictor.{Predictor}
 use Rattle.clipping_predictor.specs.declared.settings.ClippingPredictorConfig.{ClippingPredictorConfig}
 use Rattle.mono_input_volume_controller.specs.declared.config.Config.{Config}
 use Rattle.input_volume_controller.specs.declared.InputVolumeController.{InputVolumeController}
 use Rattle.input_volume_controller.specs.Controller.{Controller, viewOf, makingWith}
 use Rattle.input_volume_controller.specs.Reply.{Reply, mark, refusal, volume, none, done, Stepped}
-use Rattle.input_volume_controller.specs.Frame.{frameBy}
 use Rattle.input_volume_controller.specs.Calls.{Call, frame, recommendation, initialise, captureSwitch, step, after, Answer, answerOf, answers, Typed}
 use Rattle.claims.specs.Made.{MadeAndHad}
 use Rattle.claims.specs.Every.{Every}
-use Rattle.claims.specs.Exact.{exactDrop}
+use Rattle.claims.specs.ExactFrame.{exactFrame}
 use Rattle.claims.specs.Unmarked.{PeakFits}
 
--- ---- a frame with exact logarithms
-
--- "the largest predicted step", and no mark
-unfoldable pub exactPredicted : Asked → Predictor → Estimated
-exactPredicted a p = record { drop = foldl max 0 (map (λ (records : List Level). exactDrop (p .settings) records a) (p .rings)); near = false }
-
--- the frame's own definition, with these estimates
-unfoldable pub exactFrame : ℤ → ℕ → List Float → Controller → Stepped
-exactFrame = frameBy exactPredicted
+-- ---- calls with exact logarithms
 
 -- no other call compares levels
 abbrev pub exactStep : Controller → Call → Stepped

@@ -23,6 +23,7 @@ pub mod Depends
 pub mod DependsEach
 pub mod AsOneInCode
 pub mod Exact
+pub mod ExactFrame
 pub mod Unmarked
 pub mod ExactRun
 pub mod Needed

@@ -1,18 +1,20 @@
--- Marks. Document 01: "An estimate is marked near exactly if a comparison of thousandths that it reached had sides 10 apart or less, or an adaptive P whose ceiling was taken lay within 10 of a
--- whole dB from 0 to 14. A frame is marked exactly if one of its channels' estimates is; a recommendation never is .. Infinite, not-a-number or missing sides are never near." Document 02 (x):
--- "the near distance falls from 10 to 6 everywhere". Here these words stand by themselves: the list of what an estimate reaches, in order, the number 6, and no tree.
--- It reaches the code by the contracts of `ClippingPredictor::estimate_clipped_level_step`, whose mark is that of `estimateTree`, and of `InputVolumeController::analyze_input_audio`, whose answer is
+-- Marks that matter. Document 02 (iii): "From now a frame is marked exactly if putting a near comparison or ceiling on its other side, one or several at once, would change the frame's returned state. Near
+-- comparisons and ceilings reached only after such a turn count too. A single estimate is marked by the same rule over its drop or none. What makes a comparison or ceiling near stays as in document 01":
+-- "sides 10 apart or less", "within 10 of a whole dB from 0 to 14", "Infinite, not-a-number or missing sides are never near", where each 10 is 6 by document 02 (x). Here these words stand by themselves:
+-- which drops an estimate may have, if each near comparison may be answered either way and each near ceiling taken on either side, with the number 6, and no tree.
+-- They reach the code by the contracts of `ClippingPredictor::estimate_clipped_level_step`, whose mark is `isNear` of the estimate, and of `InputVolumeController::analyze_input_audio`, whose answer is
 -- the reply of `step`. Definitions only.
 use mathlib.Core.Path.{_≡_}
-use mathlib.Core.Bool.{Bool, true, false, not, _&&_, _||_}
-use mathlib.Core.List.{List, [], _∷_}
-use Prim.Native.Nat.{ℕ, zero, suc, _*_}
-use lib.Dec.{T, leb, ltb}
-use lib.IntN.{ℤ, pos}
+use mathlib.Core.Logic.{_⊎_, _↔_}
+use mathlib.Core.Bool.{Bool, true, false, cond}
+use mathlib.Core.List.{List, [], _∷_, foldl}
+use Prim.Native.Nat.{ℕ, _+_, _*_, _/_, _<_, max}
+use lib.Dec.{T, leb}
+use lib.IntN.{ℤ, pos, negsuc}
 use lib.Ieee.{Float, binary32, ofInt}
 use lib.ListN.{length, replicate}
 use Rattle.levels.specs.declared.decibels.Decibels.{Decibels}
-use Rattle.levels.specs.declared.decibels.Decibels.the-variants.{Finite}
+use Rattle.levels.specs.declared.decibels.Decibels.the-variants.{Finite, PlusInfinity, MinusInfinity, NotANumber}
 use Rattle.levels.specs.Decibels.{minus, less, atMost, within}
 use Rattle.levels.specs.Level.{dbfs}
 use Rattle.clipping_predictor_level_buffer.specs.declared.level.Level.{Level}
@@ -23,96 +25,111 @@ use Rattle.clipping_predictor.specs.declared.settings.ClippingPredictorMode.{Cl
 use Rattle.clipping_predictor.specs.declared.settings.ClippingPredictorMode.the-variants.{ClippingEventPrediction, AdaptiveStepClippingPeakPrediction, FixedStepClippingPeakPrediction}
 use Rattle.clipping_predictor.specs.declared.settings.Settings.{Settings}
 use Rattle.clipping_predictor.specs.declared.modes.Asked.{Asked}
-use Rattle.clipping_predictor.specs.Tree.{marked}
-use Rattle.clipping_predictor.specs.Estimate.{crestFactor, wholeDb, projectedPeak, capacityOf, estimateTree}
+use Rattle.clipping_predictor.specs.Turned.{Each, only, estimated, isNear}
+use Rattle.clipping_predictor.specs.Estimate.{dropBy, adaptiveDrop, crestFactor, wholeDb, projectedPeak, capacityOf, estimateTree}
 use Rattle.clipping_predictor.specs.Predictor.{enteredIf}
 use Rattle.mono_input_volume_controller.specs.declared.speech_level.SpeechLevel.{SpeechLevel}
 use Rattle.mono_input_volume_controller.specs.Config.{defaults, settingsFrom}
 use Rattle.input_volume_controller.specs.ControlCalls.{withAppliedInputVolume}
 use Rattle.input_volume_controller.specs.Controller.{Controller, fresh}
-use Rattle.input_volume_controller.specs.Reply.{Reply, mark}
-use Rattle.input_volume_controller.specs.Frame.{askedOf}
+use Rattle.input_volume_controller.specs.Reply.{Reply, mark, Stepped}
+use Rattle.input_volume_controller.specs.Frame.{askedOf, frameBy}
 use Rattle.input_volume_controller.specs.Calls.{Call, frame, recommendation, step, after}
 use Rattle.claims.specs.Past.{isAccepted}
 
--- ---- what an estimate reaches
-
-pub data Reached : Type 0 where
-  -- a comparison: its two sides, in thousandths
-  compared : Decibels → Decibels → Reached
-  -- a P whose ceiling was taken
-  ceilingOf : Decibels → Reached
-
--- what is reached if a comparison before it went so
-abbrev pub reachedIf : Bool → List Reached → List Reached
-reachedIf true rest = rest
-reachedIf false rest = []
-
--- "none if d(M) - 90,310 ≤ threshold", else what follows
-abbrev pub peakThen : ℤ → Level → List Reached → List Reached
-peakThen threshold window rest = compared (dbfs (window .max)) (Finite threshold) ∷ reachedIf (not (atMost (dbfs (window .max)) (Finite threshold))) rest
-
--- "P .. must be above it": if it is, what follows
-abbrev pub projectedThen : ℤ → Level → Level → List Reached → List Reached
-projectedThen threshold window reference rest =
-    peakThen threshold window (compared (Finite threshold) (projectedPeak window reference) ∷ reachedIf (less (Finite threshold) (projectedPeak window reference)) rest)
-
--- the three modes; "the threshold is first cut to whole dB" in the second and the third, and a ceiling is taken in the second alone
-abbrev pub modeReaches : ClippingPredictorMode → Settings → Level → Level → List Reached
-modeReaches ClippingEventPrediction s window reference =
-    peakThen (s .threshold) window (compared (crestFactor window) (minus (crestFactor reference) (Finite (s .margin))) ∷ [])
-modeReaches AdaptiveStepClippingPeakPrediction s window reference = projectedThen (wholeDb (s .threshold)) window reference (ceilingOf (projectedPeak window reference) ∷ [])
-modeReaches FixedStepClippingPeakPrediction s window reference = projectedThen (wholeDb (s .threshold)) window reference []
-
--- "missing metrics, of either window, give none before any comparison"
-unfoldable pub windowsReach : Settings → Metrics → Metrics → List Reached
-windowsReach s (Found window) (Found reference) = modeReaches (s .mode) s window reference
-windowsReach s (Found window) Missing = []
-windowsReach s (Found window) (Refused cause) = []
-windowsReach s Missing reference = []
-windowsReach s (Refused cause) reference = []
-
--- "An estimate at level ≤ min is none": the same from a ring's records
-unfoldable pub estimateReaches : Settings → List Level → Asked → List Reached
-estimateReaches s records a =
-    reachedIf (not (leb (a .level) (a .least)))
-    (windowsReach s (partialMetrics (capacityOf s) records 0 (s .window)) (partialMetrics (capacityOf s) records (s .delay) (s .reference)))
-
--- ---- the mark
+-- ---- comparisons and ceilings that may go either way
 
 -- "the near distance falls from 10 to 6 everywhere"
 abbrev pub areNear : Decibels → Decibels → Bool
 areNear x y = within 6 x y
 
--- near to one of the first `count` whole dB, counted from 0
-unfoldable pub nearWhole : ℕ → Decibels → Bool
-nearWhole zero p = false
-nearWhole (suc k) p = areNear p (Finite (pos (k * 1000))) || nearWhole k p
+-- what a comparison may be answered: as it is, unless its sides are near
+abbrev pub MayBeAtMost : Decibels → Decibels → Bool → Type 0
+MayBeAtMost x y answer = areNear x y ≡ false → answer ≡ atMost x y
 
--- a comparison that "had" near "sides"; a P that "lay" near "a whole dB from 0 to 14"
-abbrev pub isNear : Reached → Bool
-isNear (compared x y) = areNear x y
-isNear (ceilingOf p) = nearWhole 15 p
+abbrev pub MayBeLess : Decibels → Decibels → Bool → Type 0
+MayBeLess x y answer = areNear x y ≡ false → answer ≡ less x y
 
-unfoldable pub any : {A : Type 0} → (A → Bool) → List A → Bool
-any f [] = false
-any f (x ∷ xs) = f x || any f xs
+-- the ceiling of z thousandths in dB, from 0 up
+abbrev pub ceilingOf : ℤ → ℕ
+ceilingOf (pos n) = (n + 999) / 1000
+ceilingOf (negsuc n) = 0
 
--- "An estimate is marked near exactly if" one of these is near
-abbrev pub estimateMarked : Settings → List Level → Asked → Bool
-estimateMarked s records a = any isNear (estimateReaches s records a)
+-- what a ceiling may be taken as: as it is, or on either side of "a whole dB from 0 to 14" that is near
+abbrev pub MayBeCeiling : ℤ → ℕ → Type 0
+MayBeCeiling z k = (k ≡ ceilingOf z) ⊎ ((whole : ℕ) × (whole < 15) × (areNear (Finite z) (Finite (pos (whole * 1000))) ≡ true) × ((k ≡ whole) ⊎ (k ≡ whole + 1)))
 
--- the wait after clipping is over
-abbrev pub waitIsOver : Controller → Bool
-waitIsOver c = not (ltb (c .control .since) (c .control .settings .«clipped_wait»))
+-- ---- the drops that an estimate may have, 0 for none
 
--- "A frame is marked exactly if one of its channels' estimates is": with capture on and the wait over they are asked, once the volume is applied and the frame is in the rings
-abbrev pub frameMarked : ℕ → ℕ → List Float → Controller → Bool
-frameMarked volume samples lent c =
-    c .control .used && (waitIsOver c
-    && any (λ (records : List Level). estimateMarked (c .predictor .settings) records (askedOf (withAppliedInputVolume volume (c .control)))) (enteredIf true samples lent (c .predictor) .rings))
+-- two comparisons, with answers that they may be given: none if the first holds; a drop of `Above` if it does not and the second does
+pub record MayDrop (Quiet Over : Bool → Type 0) (Above : ℕ → Type 0) (drop : ℕ) : Type 0 where
+  pub quiet : Bool
+  pub over : Bool
+  pub above : ℕ
+  pub quiet-may : Quiet quiet
+  pub over-may : Over over
+  pub above-may : Above above
+  pub is : drop ≡ cond quiet 0 (cond over above 0)
 
--- ---- three frames
+-- "none if d(M) - 90,310 ≤ threshold; event if (d(M)-h(A)) < (d(Mr)-h(Ar)) - margin"
+abbrev pub MayDropAtEvent : ℤ → ℤ → Level → Level → Asked → ℕ → Type 0
+MayDropAtEvent threshold margin window reference a =
+    MayDrop (MayBeAtMost (dbfs (window .max)) (Finite threshold)) (MayBeLess (crestFactor window) (minus (crestFactor reference) (Finite margin))) (λ (n : ℕ). n ≡ dropBy a (a .step))
+
+-- "None if d(M) - 90,310 ≤ it. P .. must be above it", the threshold "cut to whole dB"
+abbrev pub MayDropAtPeak : ℤ → Level → Level → (ℕ → Type 0) → ℕ → Type 0
+MayDropAtPeak threshold window reference Above = MayDrop (MayBeAtMost (dbfs (window .max)) (Finite threshold)) (MayBeLess (Finite threshold) (projectedPeak window reference)) Above
+
+-- "asks the volume step for minus the ceiling of P in dB": an infinite P has no ceiling but the highest, and one that is no number or below all of them is above no threshold
+abbrev pub MayDropBy : Asked → Decibels → ℕ → Type 0
+MayDropBy a (Finite z) n = (k : ℕ) × MayBeCeiling z k × (n ≡ adaptiveDrop a k)
+MayDropBy a PlusInfinity n = n ≡ adaptiveDrop a 15
+MayDropBy a MinusInfinity n = n ≡ 0
+MayDropBy a NotANumber n = n ≡ 0
+
+-- the three modes; "Fixed mode takes the default step"
+abbrev pub MayDropIn : ClippingPredictorMode → Settings → Level → Level → Asked → ℕ → Type 0
+MayDropIn ClippingEventPrediction s window reference a = MayDropAtEvent (s .threshold) (s .margin) window reference a
+MayDropIn AdaptiveStepClippingPeakPrediction s window reference a = MayDropAtPeak (wholeDb (s .threshold)) window reference (MayDropBy a (projectedPeak window reference))
+MayDropIn FixedStepClippingPeakPrediction s window reference a = MayDropAtPeak (wholeDb (s .threshold)) window reference (λ (n : ℕ). n ≡ dropBy a (a .step))
+
+-- "missing metrics, of either window, give none before any comparison"
+unfoldable pub MayDropOver : Settings → Asked → Metrics → Metrics → ℕ → Type 0
+MayDropOver s a (Found window) (Found reference) n = MayDropIn (s .mode) s window reference a n
+MayDropOver s a (Found window) Missing n = n ≡ 0
+MayDropOver s a (Found window) (Refused cause) n = n ≡ 0
+MayDropOver s a Missing reference n = n ≡ 0
+MayDropOver s a (Refused cause) reference n = n ≡ 0
+
+-- "An estimate at level ≤ min is none"
+abbrev pub MayDropUnless : Bool → (ℕ → Type 0) → ℕ → Type 0
+MayDropUnless true Above n = n ≡ 0
+MayDropUnless false Above n = Above n
+
+-- from a ring's records
+unfoldable pub MayEstimate : Settings → List Level → Asked → ℕ → Type 0
+MayEstimate s records a =
+    MayDropUnless (leb (a .level) (a .least))
+    (MayDropOver s a (partialMetrics (capacityOf s) records 0 (s .window)) (partialMetrics (capacityOf s) records (s .delay) (s .reference)))
+
+-- "A single estimate is marked by the same rule over its drop or none": it may have another drop
+abbrev pub EstimateMatters : Settings → List Level → Asked → ℕ → Type 0
+EstimateMatters s records a drop = (other : ℕ) × MayEstimate s records a other × (other ≡ drop → ⊥)
+
+-- ---- frames
+
+-- the frame's own definition, with these drops in place of the channels' estimates: "the largest predicted step"
+abbrev pub frameWith : List ℕ → ℤ → ℕ → List Float → Controller → Stepped
+frameWith drops = frameBy (λ a p. only (foldl max 0 drops))
+
+-- "putting a near comparison or ceiling on its other side, one or several at once, would change the frame's returned state": there are drops that the channels' estimates may have, once the volume is
+-- applied and the frame is in the rings, with which the frame returns another state
+pub record FrameMatters (c : Controller) (volume samples : ℕ) (lent : List Float) : Type 0 where
+  pub drops : List ℕ
+  pub may : Each (λ (records : List Level). MayEstimate (c .predictor .settings) records (askedOf (withAppliedInputVolume volume (c .control)))) (enteredIf true samples lent (c .predictor) .rings) drops
+  pub changes : frameWith drops (pos volume) samples lent c .state ≡ step c (frame (pos volume) samples lent) .state → ⊥
+
+-- ---- four frames
 
 -- a frame of one sample, and the reply to one that comes after so many others like it on a fresh controller of one channel with the default settings. With the tenth its windows are full.
 abbrev pub frameOf : ℕ → Call
@@ -121,14 +138,18 @@ frameOf sample = frame (pos 100) 1 (ofInt binary32 (pos sample) ∷ [])
 abbrev pub replyAfter : ℕ → ℕ → Reply
 replyAfter count sample = step (after (fresh (settingsFrom defaults) 1) (replicate count (frameOf sample))) (frameOf sample) .reply
 
--- THE CLAIM
+-- THE CLAIM, from any state
 pub record MarkedExactly : Type 0 where
-  pub estimate : (s : Settings) (records : List Level) (a : Asked) → marked (estimateTree s records a) ≡ estimateMarked s records a
+  pub estimate : (s : Settings) (records : List Level) (a : Asked)
+      → (isNear (estimated (estimateTree s records a)) ≡ true) ↔ EstimateMatters s records a (estimated (estimateTree s records a) .drop)
   pub frames : (c : Controller) (volume samples : ℕ) (lent : List Float) → T (isAccepted (length (c .control .channels)) (pos volume) samples lent)
-      → step c (frame (pos volume) samples lent) .reply ≡ mark (frameMarked volume samples lent c)
+      → (step c (frame (pos volume) samples lent) .reply ≡ mark true) ↔ FrameMatters c volume samples lent
+  pub answered : (c : Controller) (volume samples : ℕ) (lent : List Float) → T (isAccepted (length (c .control .channels)) (pos volume) samples lent)
+      → (near : Bool) × (step c (frame (pos volume) samples lent) .reply ≡ mark near)
   pub recommendations : (c : Controller) (probability : Float) (level : SpeechLevel) (near : Bool) → step c (recommendation probability level) .reply ≡ mark near → ⊥
-  -- a peak of 29,226 has the level -994, which is 6 above the threshold, and so has its P: near; one of 29,229 has -993, 7 above it, and is not near; and with a frame fewer metrics are missing, and
-  -- nothing is compared
+  -- a peak of 29,226 has the level -994, which is 6 above the threshold, and so has its P: near, and a turn would predict nothing; one of 29,229 has -993, 7 above it, and is not near; with a frame
+  -- fewer metrics are missing, and nothing is compared; and one of 32,766 has a P of -1, near 0 dB, but the ceilings 0 and 1 both lead to the default step
   pub one-marked : replyAfter 9 29226 ≡ mark true
   pub one-unmarked : replyAfter 9 29229 ≡ mark false
   pub one-missing : replyAfter 8 29226 ≡ mark false
+  pub one-alike : replyAfter 9 32766 ≡ mark false

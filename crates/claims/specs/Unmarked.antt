@@ -1,32 +1,37 @@
--- An unmarked estimate decides as exact logarithms would. `estimateTree` of the clipping predictor is what the code does (the contracts of `ClippingPredictor::estimate_clipped_level_step` and
--- `InputVolumeController::analyze_input_audio` rest on it): its tests compare rounded levels, and are near where the sides lie 6 apart or less. `exactDrop` compares exact ones. Definitions only.
+-- Unmarked means exact. `estimateTree` of the clipping predictor is what the code does (the contracts of `ClippingPredictor::estimate_clipped_level_step` and `InputVolumeController::analyze_input_audio` rest
+-- on it): its tests compare rounded levels. `exactDrop` and `exactFrame` compare exact ones. Demand 2 lets a marked call alone depart, and document 02 (iii) narrows that: a frame whose state no turn of near
+-- comparisons could change is unmarked, and its state is the exact one. Definitions only.
 use mathlib.Core.Path.{_≡_}
-use mathlib.Core.Bool.{true, false}
+use mathlib.Core.Bool.{false}
 use mathlib.Core.List.{List}
+use Prim.Native.Nat.{ℕ}
 use lib.Dec.{T}
-use lib.Ieee.{binary32, fits}
-use mathlib.Core.Logic.{_⊎_}
+use lib.IntN.{ℤ}
+use lib.Ieee.{Float, binary32, fits}
 use Rattle.clipping_predictor_level_buffer.specs.declared.level.Level.{Level}
 use Rattle.clipping_predictor.specs.declared.settings.Settings.{Settings}
 use Rattle.clipping_predictor.specs.declared.modes.Asked.{Asked}
-use Rattle.clipping_predictor.specs.Tree.{Tree, leaf, test, reached, marked}
+use Rattle.clipping_predictor.specs.Turned.{estimated, isNear}
 use Rattle.clipping_predictor.specs.Estimate.{estimateTree}
+use Rattle.input_volume_controller.specs.Controller.{Controller}
+use Rattle.input_volume_controller.specs.Reply.{mark}
+use Rattle.input_volume_controller.specs.Calls.{frame, step, Typed}
 use Rattle.claims.specs.Every.{Every}
 use Rattle.claims.specs.Exact.{exactDrop}
-
--- a is what the outcomes lead to if each near test may have either outcome
-unfoldable pub Turned : {A : Type 0} → Tree A → A → Type 0
-Turned (leaf b) a = b ≡ a
-Turned (test true false held failed) a = Turned held a
-Turned (test false false held failed) a = Turned failed a
-Turned (test true true held failed) a = Turned held a ⊎ Turned failed a
-Turned (test false true held failed) a = Turned held a ⊎ Turned failed a
+use Rattle.claims.specs.ExactFrame.{exactFrame}
+use Rattle.claims.specs.Marked.{MayEstimate}
 
 -- A record's peak is a 32-bit float, as all that the code holds is. Its mean need not be asked: what is compared is a quotient of 32-bit floats.
 abbrev pub PeakFits : Level → Type 0
 PeakFits l = T (fits binary32 (l .max))
 
--- THE CLAIM, of every mode and all records: turning near tests alone leads from what the code decides to what exact logarithms decide; so with no near test on the way the two are the same
+-- THE CLAIM, of every mode, all records and all frames
 pub record UnmarkedIsExact : Type 0 where
-  pub turned : (s : Settings) (records : List Level) (a : Asked) → Every PeakFits records → Turned (estimateTree s records a) (exactDrop s records a)
-  pub unmarked : (s : Settings) (records : List Level) (a : Asked) → Every PeakFits records → marked (estimateTree s records a) ≡ false → reached (estimateTree s records a) ≡ exactDrop s records a
+  -- the exact drop is one that the estimate may have: it differs by turns of near comparisons and ceilings alone
+  pub may : (s : Settings) (records : List Level) (a : Asked) → Every PeakFits records → MayEstimate s records a (exactDrop s records a)
+  -- so an unmarked estimate has the exact drop
+  pub estimate : (s : Settings) (records : List Level) (a : Asked) → Every PeakFits records → isNear (estimated (estimateTree s records a)) ≡ false
+      → estimated (estimateTree s records a) .drop ≡ exactDrop s records a
+  -- and an unmarked frame returns the exact state, whatever its estimates are
+  pub frames : (c : Controller) (volume : ℤ) (samples : ℕ) (lent : List Float) → Every (Every PeakFits) (c .predictor .rings) → Typed (frame volume samples lent)
+      → step c (frame volume samples lent) .reply ≡ mark false → step c (frame volume samples lent) .state ≡ exactFrame volume samples lent c .state

@@ -6,15 +6,13 @@ use native.Mathlib.Omega.{arith}
 use native.Mathlib.Decide.{decLe}
 use lib.Dec.{ltb}
 use lib.IntN.{ℤ, pos, negsuc, natAbs, _-ℤ_}
-use lib.Signed.{leZ}
 use borrow.Author.Tests.{le-leb, lt-leb, leb-true, lt-ltb, ltb-true, ltb-false}
 use Rattle.numbers.proofs.Signs.{clash}
 use Rattle.levels.specs.declared.decibels.Decibels.the-variants.{Finite}
 use Rattle.levels.specs.Decibels.{near, within, nearDistance}
 use Rattle.clipping_predictor.specs.declared.modes.Asked.{Asked}
-use Rattle.clipping_predictor.specs.Tree.{leaf, test, reached, marked}
+use Rattle.clipping_predictor.specs.Tree.{leaf, test, reached}
 use Rattle.clipping_predictor.specs.Estimate.{adaptiveDrop, maxGainChange, nearestWhole, ceilingTree}
-use Rattle.clipping_predictor.proofs.Paths.{or-false}
 
 -- the ceiling of z thousandths, in whole dB from 0 up
 abbrev pub ceiling : ℤ → ℕ
@@ -33,15 +31,10 @@ is-ceiling a (pos n) =
     ]
 is-ceiling a (negsuc n) = refl
 
--- ---- the mark
+-- ---- whether it is near
 
-abbrev mark : ℤ → Bool
-mark z = ltb (nearestWhole z) maxGainChange && near (Finite z) (Finite (pos (nearestWhole z * 1000)))
-
-tree-mark : (a : Asked) (z : ℤ) (t n : Bool) (x y : ℕ) → marked (test t n (leaf x) (leaf y)) ≡ n
-unfolding marked
-tree-mark a z true n x y = or-false n
-tree-mark a z false n x y = or-false n
+abbrev pub nearCeiling : ℤ → Bool
+nearCeiling z = ltb (nearestWhole z) maxGainChange && near (Finite z) (Finite (pos (nearestWhole z * 1000)))
 
 -- z lies within the near distance of k whole dB
 abbrev pub Close : ℤ → ℕ → Type 0
@@ -52,12 +45,12 @@ both true true e = (refl, refl)
 both true false e = clash (sym e)
 both false b e = clash (sym e)
 
--- THE MARK: near means that some whole dB from 0 to 14 is within the near distance
-pub near-means : (a : Asked) (z : ℤ) → marked (ceilingTree a z (nearestWhole z)) ≡ true → (k : ℕ) × (k < maxGainChange) × Close z k
+-- near means that the nearest whole dB is one from 0 to 14 and within the near distance
+pub near-means : (z : ℤ) → nearCeiling z ≡ true → (nearestWhole z < maxGainChange) × Close z (nearestWhole z)
 unfolding within
-near-means a z e =
-    let p = both (ltb (nearestWhole z) maxGainChange) (near (Finite z) (Finite (pos (nearestWhole z * 1000)))) (sym (tree-mark a z (leZ z (pos (nearestWhole z * 1000))) (mark z) (adaptiveDrop a (nearestWhole z)) (adaptiveDrop a (nearestWhole z + 1))) ∙ e) in
-    (nearestWhole z, ltb-true (nearestWhole z) maxGainChange (p .0), leb-true (natAbs (z -ℤ pos (nearestWhole z * 1000))) nearDistance (p .1))
+near-means z e =
+    let p = both (ltb (nearestWhole z) maxGainChange) (near (Finite z) (Finite (pos (nearestWhole z * 1000)))) e in
+    (ltb-true (nearestWhole z) maxGainChange (p .0), leb-true (natAbs (z -ℤ pos (nearestWhole z * 1000))) nearDistance (p .1))
 
 -- the distance of two numbers, and of a negative number from a whole one
 apart-pos : (n m k : ℕ) → natAbs (pos n -ℤ pos m) ≤ k → (n ≤ m + k) × (m ≤ n + k)
@@ -68,7 +61,7 @@ apart-pos n (suc m) k h = go (ltb n (suc m)) refl h
     go true e l = let q = ltb-true n (suc m) e in omega (arith, l)
     go false e l = let q = ltb-false n (suc m) e in omega (arith, l)
 
-close-nearest : (z : ℤ) (k : ℕ) → Close z k → nearestWhole z ≡ k
+pub close-nearest : (z : ℤ) (k : ℕ) → Close z k → nearestWhole z ≡ k
 close-nearest (pos n) k h = let p = apart-pos n (k * 1000) nearDistance h in omega (arith, p .0, p .1)
 close-nearest (negsuc n) zero h = refl
 close-nearest (negsuc n) (suc k) h = absurd (far n (suc k * 1000) (omega arith) h)
@@ -77,11 +70,10 @@ close-nearest (negsuc n) (suc k) h = absurd (far n (suc k * 1000) (omega arith) 
     far n zero l d = omega arith
     far n (suc m) l d = omega (arith, d)
 
--- and every such P is near
-pub near-all : (a : Asked) (z : ℤ) (k : ℕ) → k < maxGainChange → Close z k → marked (ceilingTree a z (nearestWhole z)) ≡ true
+-- and a P within the near distance of any of them is near: that one is the nearest
+pub near-all : (z : ℤ) (k : ℕ) → k < maxGainChange → Close z k → nearCeiling z ≡ true
 unfolding within
-near-all a z k h c =
+near-all z k h c =
     let e = close-nearest z k c in
-    tree-mark a z (leZ z (pos (nearestWhole z * 1000))) (mark z) (adaptiveDrop a (nearestWhole z)) (adaptiveDrop a (nearestWhole z + 1))
-    ∙ (λ i. ltb (e i) maxGainChange && near (Finite z) (Finite (pos (e i * 1000))))
+    (λ i. ltb (e i) maxGainChange && near (Finite z) (Finite (pos (e i * 1000))))
     ∙ (λ i. lt-ltb k maxGainChange h i && le-leb (natAbs (z -ℤ pos (k * 1000))) nearDistance c i)

@@ -11,8 +11,8 @@ use Rattle.clipping_predictor.specs.declared.settings.Settings.{Settings
 use Rattle.clipping_predictor.specs.declared.modes.Estimated.{Estimated}
 use Rattle.clipping_predictor.specs.declared.modes.Question.{Question}
 use Rattle.clipping_predictor.specs.declared.modes.Question.the-variants.{Nothing, Step}
-use Rattle.clipping_predictor.specs.Tree as Tree
-use Rattle.clipping_predictor.specs.Estimate.{estimateTree, estimated}
+use Rattle.clipping_predictor.specs.Turned.{estimated}
+use Rattle.clipping_predictor.specs.Estimate.{estimateTree}
 use Rattle.clipping_predictor.specs.Settings as Settings
 use Rattle.clipping_predictor.specs.Predictor.{Predictor}
 use Rattle.clipping_predictor.specs.AllRings.{noEstimate, joined, predictedBy, estimatedFor, predictedFor}
@@ -20,7 +20,7 @@ use Rattle.clipping_predictor.proofs.Windows.{off}
 
 -- where no ring answers anything, all of them do not
 none-joined : (f : List Level → Estimated) (rings : List (List Level)) → ((records : List Level) → f records ≡ noEstimate) → foldl joined noEstimate (map f rings) ≡ noEstimate
-unfolding Tree.reached Tree.marked
+unfolding estimated
 none-joined f [] h = refl
 none-joined f (r ∷ rings) h = ap (λ (e : Estimated). foldl joined (joined noEstimate e) (map f rings)) (h r) ∙ none-joined f rings h
 

@@ -1,4 +1,6 @@
 pub mod Paths
+pub mod Turns
+pub mod Choices
 pub mod Signed
 pub mod Windows
 pub mod Given

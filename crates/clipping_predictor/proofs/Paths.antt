@@ -1,48 +1,25 @@
--- What a tree of tests leads to, by the outcomes of its tests. Assumes nothing.
-use mathlib.Core.Path.{_≡_, refl, sym, _∙_}
-use mathlib.Core.Bool.{Bool, true, false, _||_}
-use Prim.Native.Nat.{ℕ}
-use Rattle.clipping_predictor.specs.Tree.{Tree, leaf, test, reached, marked}
-use Rattle.clipping_predictor.specs.Estimate.{estimated, afterTest}
+-- What a test leads to, by its outcome and whether it was near. Assumes nothing.
+use mathlib.Core.Path.{_≡_, refl, sym}
+use mathlib.Core.Bool.{Bool, true, false, _&&_, not}
+use Rattle.numbers.proofs.Signs.{clash}
+use Rattle.clipping_predictor.specs.declared.modes.Estimated.{Estimated}
+use Rattle.clipping_predictor.specs.Turned.{beside, tested}
 
-pub or-false : (b : Bool) → (b || false) ≡ b
-or-false true = refl
-or-false false = refl
+module _ (o n : Bool) (x y : Estimated) where
+  pub held-near : n ≡ true → o ≡ true → beside x y ≡ tested o n x y
+  held-near e f = rw (e, f)
 
-pub or-or : (a b c : Bool) → ((a || b) || c) ≡ (a || (b || c))
-or-or true b c = refl
-or-or false b c = refl
+  pub failed-near : n ≡ true → o ≡ false → beside y x ≡ tested o n x y
+  failed-near e f = rw (e, f)
 
--- nothing is reached after a leaf
-pub at-leaf : (near : Bool) (n : ℕ) → afterTest near (leaf n) ≡ record { drop = n; near = near }
-unfolding reached marked
-at-leaf near n = λ i. record { drop = n; near = or-false near i }
+  pub held-sure : n ≡ false → o ≡ true → x ≡ tested o n x y
+  held-sure e f = rw (e, f)
 
--- the first test of a tree, held or failed
-pub held : (t n : Bool) (a b : Tree ℕ) → t ≡ true → estimated (test t n a b) ≡ afterTest n a
-unfolding reached marked
-held t n a b e = λ i. record { drop = reached (test (e i) n a b); near = marked (test (e i) n a b) }
+  pub failed-sure : n ≡ false → o ≡ false → y ≡ tested o n x y
+  failed-sure e f = rw (e, f)
 
-pub failed : (t n : Bool) (a b : Tree ℕ) → t ≡ false → estimated (test t n a b) ≡ afterTest n b
-unfolding reached marked
-failed t n a b e = λ i. record { drop = reached (test (e i) n a b); near = marked (test (e i) n a b) }
-
--- a test after a test
-pub held-after : (near t n : Bool) (a b : Tree ℕ) → t ≡ true → afterTest near (test t n a b) ≡ afterTest (near || n) a
-unfolding reached marked
-held-after near t n a b e =
-    (λ i. record { drop = reached (test (e i) n a b); near = near || marked (test (e i) n a b) })
-    ∙ (λ i. record { drop = reached a; near = sym (or-or near n (marked a)) i })
-
-pub failed-after : (near t n : Bool) (a b : Tree ℕ) → t ≡ false → afterTest near (test t n a b) ≡ afterTest (near || n) b
-unfolding reached marked
-failed-after near t n a b e =
-    (λ i. record { drop = reached (test (e i) n a b); near = near || marked (test (e i) n a b) })
-    ∙ (λ i. record { drop = reached b; near = sym (or-or near n (marked b)) i })
-
--- the second of two tests is reached where the first fails, and both marks count
-pub second-held : (t n u m : Bool) (z a b : Tree ℕ) → t ≡ false → u ≡ true → estimated (test t n z (test u m a b)) ≡ afterTest (n || m) a
-second-held t n u m z a b e f = failed t n z (test u m a b) e ∙ held-after n u m a b f
-
-pub second-failed : (t n u m : Bool) (z a b : Tree ℕ) → t ≡ false → u ≡ false → estimated (test t n z (test u m a b)) ≡ afterTest (n || m) b
-second-failed t n u m z a b e f = failed t n z (test u m a b) e ∙ failed-after n u m a b f
+-- a test that surely holds, or fails
+pub sure-both : (o n : Bool) → (o && not n) ≡ true → (o ≡ true) × (n ≡ false)
+sure-both true true e = clash (sym e)
+sure-both true false e = (refl, refl)
+sure-both false n e = clash (sym e)

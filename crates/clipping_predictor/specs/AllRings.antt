@@ -1,6 +1,6 @@
 -- Document 01, "All channels": the estimates of all rings of a predictor, joined; and what a frame that enters the rings leads to. Definitions only.
 use mathlib.Core.Path.{_≡_}
-use mathlib.Core.Bool.{Bool, true, false, _||_}
+use mathlib.Core.Bool.{Bool, true, false}
 use mathlib.Core.List.{List, map, foldl}
 use Prim.Native.Nat.{ℕ, max}
 use lib.Ieee.{Float}
@@ -13,15 +13,16 @@ use Rattle.clipping_predictor.specs.declared.modes.Question.the-variants
 use Rattle.clipping_predictor.specs.declared.ClippingPredictor.{ClippingPredictor}
 use Rattle.clipping_predictor.specs.declared.Heard.{Heard}
 use Rattle.clipping_predictor.specs.Tree.{leaf}
-use Rattle.clipping_predictor.specs.Estimate.{estimateTree, estimated}
+use Rattle.clipping_predictor.specs.Turned.{estimated}
+use Rattle.clipping_predictor.specs.Estimate.{estimateTree}
 use Rattle.clipping_predictor.specs.Predictor.{Predictor, viewOf, frameFits, Entered, WithFrame}
 
 abbrev pub noEstimate : Estimated
 noEstimate = estimated (leaf 0)
 
--- "the largest predicted step"; "A frame is marked exactly if one of its channels' estimates is"
+-- "the largest predicted step" of two channels, and the ends of what choices in both can join to: no choice joins to less than the larger of the least
 abbrev pub joined : Estimated → Estimated → Estimated
-joined a b = record { drop = max (a .drop) (b .drop); near = a .near || b .near }
+joined a b = record { drop = max (a .drop) (b .drop); low = max (a .low) (b .low); high = max (a .high) (b .high) }
 
 unfoldable pub predictedBy : Asked → Predictor → Estimated
 predictedBy a p = foldl joined noEstimate (map (λ (records : List Level). estimated (estimateTree (p .settings) records a)) (p .rings))

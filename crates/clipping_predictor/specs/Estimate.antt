@@ -2,7 +2,7 @@
 -- M, A are the metrics over the window, Mr, Ar those over the reference. Definitions only.
 use mathlib.Core.Path.{_≡_}
 use Prim.Native.Nat.{ℕ, _+_, _-_, _*_, _/_, min, max}
-use mathlib.Core.Bool.{Bool, true, false, _&&_, _||_}
+use mathlib.Core.Bool.{Bool, true, false, _&&_}
 use mathlib.Core.List.{List}
 use lib.Dec.{leb, ltb}
 use lib.IntN.{ℤ, pos, negsuc, negℤ, _*ℤ_}
@@ -20,8 +20,7 @@ use Rattle.clipping_predictor.specs.declared.settings.ClippingPredictorM
 use Rattle.clipping_predictor.specs.declared.settings.ClippingPredictorMode.the-variants.{ClippingEventPrediction, AdaptiveStepClippingPeakPrediction, FixedStepClippingPeakPrediction}
 use Rattle.clipping_predictor.specs.declared.settings.Settings.{Settings}
 use Rattle.clipping_predictor.specs.declared.modes.Asked.{Asked}
-use Rattle.clipping_predictor.specs.declared.modes.Estimated.{Estimated}
-use Rattle.clipping_predictor.specs.Tree.{Tree, leaf, test, reached, marked, ifAtMost, ifLess}
+use Rattle.clipping_predictor.specs.Tree.{Tree, leaf, test, ifAtMost, ifLess}
 
 -- "New level is level - default step, held within min and max": how far the level falls by a step
 unfoldable pub dropBy : Asked → ℕ → ℕ
@@ -34,10 +33,11 @@ crestFactor l = minus (d (l .max)) (h (l .average))
 -- ---- event
 
 -- "none if d(M) - 90,310 ≤ threshold; event if (d(M)-h(A)) < (d(Mr)-h(Ar)) - margin"
+abbrev pub crestTree : ℤ → Level → Level → Asked → Tree ℕ
+crestTree margin window reference a = ifLess (crestFactor window) (minus (crestFactor reference) (Finite margin)) (leaf (dropBy a (a .step))) (leaf 0)
+
 abbrev pub eventTree : ℤ → ℤ → Level → Level → Asked → Tree ℕ
-eventTree threshold margin window reference a =
-    ifAtMost (dbfs (window .max)) (Finite threshold) (leaf 0)
-    (ifLess (crestFactor window) (minus (crestFactor reference) (Finite margin)) (leaf (dropBy a (a .step))) (leaf 0))
+eventTree threshold margin window reference a = ifAtMost (dbfs (window .max)) (Finite threshold) (leaf 0) (crestTree margin window reference a)
 
 -- ---- peak, fixed and adaptive
 
@@ -50,10 +50,12 @@ abbrev pub projectedPeak : Level → Level → Decibels
 projectedPeak window reference = plus (plus (crestFactor reference) (h (window .average))) minLevelDbfs
 
 -- "None if d(M) - 90,310 ≤ it. P .. must be above it." What follows then is `above`.
+abbrev pub projectedTree : ℤ → Decibels → Tree ℕ → Tree ℕ
+projectedTree edge projected above = ifLess (Finite edge) projected above (leaf 0)
+
 abbrev pub peakTree : ℤ → Level → Level → Tree ℕ → Tree ℕ
 peakTree threshold window reference above =
-    ifAtMost (dbfs (window .max)) (Finite (wholeDb threshold)) (leaf 0)
-    (ifLess (Finite (wholeDb threshold)) (projectedPeak window reference) above (leaf 0))
+    ifAtMost (dbfs (window .max)) (Finite (wholeDb threshold)) (leaf 0) (projectedTree (wholeDb threshold) (projectedPeak window reference) above)
 
 -- CLIPPING_PREDICTOR_MAX_GAIN_CHANGE
 abbrev pub maxGainChange : ℕ
@@ -123,10 +125,6 @@ estimateTree s records a =
     unlessLow (leb (a .level) (a .least))
     (windowsTree s a (partialMetrics (capacityOf s) records 0 (s .window)) (partialMetrics (capacityOf s) records (s .delay) (s .reference)))
 
--- the drop that the outcomes lead to, 0 for none, and the mark
-abbrev pub estimated : Tree ℕ → Estimated
-estimated t = record { drop = reached t; near = marked t }
-
 -- ---- what the private functions say
 
 -- r is the crest factor of l, which no bound of the sums above can exceed
@@ -141,7 +139,3 @@ projectedLimit = levelLimit + levelLimit + levelLimit + 90310
 pub record ProjectedPeak (window reference : Level) (r : Decibels) : Type 0 where
   pub is : r ≡ projectedPeak window reference
   pub bounded : Bounded projectedLimit r
-
--- an estimate that comes after a test that was near or not
-abbrev pub afterTest : Bool → Tree ℕ → Estimated
-afterTest near t = record { drop = reached t; near = near || marked t }

@@ -18,7 +18,8 @@ use Rattle.clipping_predictor.specs.declared.Arguments.{Arguments}
 use Rattle.clipping_predictor.specs.declared.Arguments.the-variants as Arguments
 use Rattle.clipping_predictor.specs.declared.Estimate.{Estimate}
 use Rattle.clipping_predictor.specs.declared.Estimate.the-variants as Estimate
-use Rattle.clipping_predictor.specs.Estimate.{estimateTree, estimated}
+use Rattle.clipping_predictor.specs.Turned.{estimated, isNear}
+use Rattle.clipping_predictor.specs.Estimate.{estimateTree}
 use Rattle.clipping_predictor.specs.Predictor.{Predictor}
 
 -- how far the level is to fall, or none, and the mark
@@ -55,7 +56,7 @@ dropOr zero near = Estimate.Nothing near
 dropOr (suc n) near = Estimate.Drop (pos (suc n)) near
 
 abbrev pub answered : Estimated → Estimate
-answered e = dropOr (e .drop) (e .near)
+answered e = dropOr (e .drop) (isNear e)
 
 unfoldable pub estimateOf : Predictor → Arguments → Estimate
 estimateOf p (Arguments.Refused cause) = Estimate.Refused cause

@@ -1,4 +1,5 @@
 pub mod Tree
+pub mod Turned
 pub mod Settings
 pub mod Estimate
 pub mod GoodFor

@@ -1,6 +1,6 @@
 -- A decision as a small tree of tests. Each test has its outcome, and whether it was near (document 01's word: its sides lay 10 apart or less, and
--- since document 02 (x) 6 or less); a leaf is what the outcomes lead to. Definitions only.
-use mathlib.Core.Bool.{Bool, true, false, _||_}
+-- since document 02 (x) 6 or less); a leaf is what the outcomes lead to. What near tests lead to if they go the other way is in Turned.antt. Definitions only.
+use mathlib.Core.Bool.{Bool, true, false}
 use Rattle.levels.specs.declared.decibels.Decibels.{Decibels}
 use Rattle.levels.specs.Decibels.{less, atMost, near}
 
@@ -14,12 +14,6 @@ unfoldable pub reached : {A : Type 0} → Tree A → A
 reached (leaf a) = a
 reached (test true n held failed) = reached held
 reached (test false n held failed) = reached failed
-
--- "marked near exactly if a comparison .. that it reached had" near sides: one of the tests on the way was near
-unfoldable pub marked : {A : Type 0} → Tree A → Bool
-marked (leaf a) = false
-marked (test true n held failed) = n || marked held
-marked (test false n held failed) = n || marked failed
 
 -- the two comparisons of thousandths
 abbrev pub ifAtMost : {A : Type 0} → Decibels → Decibels → Tree A → Tree A → Tree A

@@ -283,7 +283,7 @@ impl ClippingPredictor {
             Arguments::Given(place, asked) => {
                 let ring = self.rings[place];
                 let e = modes::estimate_for(self.settings, ring, asked);
-                answer_of(e.drop, e.near)
+                answer_of(e.drop, e.low < e.high)
             }
         }
     }

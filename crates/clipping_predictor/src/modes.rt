@@ -1,7 +1,7 @@
-// What one channel's ring leads to: the tests of the three modes on the metrics of its two windows, with the near mark of those that were reached.
+// What one channel's ring leads to: the tests of the three modes on the metrics of its two windows, and what near ones would lead to on their other side.
 ghost use mathlib.Core.Path.{_≡_};
 ghost use Prim.Native.Nat.{_+_, _≤_, min};
-ghost use mathlib.Core.Bool.{_&&_};
+ghost use mathlib.Core.Bool.{_&&_, not};
 ghost use lib.Dec.{ltb};
 ghost use lib.IntN.{natAbs};
 ghost use Rattle.clipping_predictor_level_buffer.specs.Ring.{stored};
@@ -10,7 +10,8 @@ ghost use Rattle.levels.specs.Decibels.{near, Bounded};
 ghost use Rattle.clipping_predictor.specs.Tree.{leaf};
 ghost use Rattle.clipping_predictor.specs.Settings.{Good};
 ghost use Rattle.clipping_predictor.specs.GoodFor.{GoodFor};
-ghost use Rattle.clipping_predictor.specs.Estimate.{dropBy, adaptiveDrop, wholeDb, nearestWhole, maxGainChange, projectedPeak, eventTree, peakTree, aboveTree, adaptiveTree, ceilingTree, modeTree, windowsTree, estimateTree, estimated, afterTest, CrestFactor, ProjectedPeak, projectedLimit};
+ghost use Rattle.clipping_predictor.specs.Estimate.{dropBy, adaptiveDrop, wholeDb, nearestWhole, maxGainChange, projectedPeak, crestTree, eventTree, projectedTree, peakTree, aboveTree, adaptiveTree, ceilingTree, modeTree, windowsTree, estimateTree, CrestFactor, ProjectedPeak, projectedLimit};
+ghost use Rattle.clipping_predictor.specs.Turned.{only, beside, tested, estimated};
 ghost use Rattle.clipping_predictor.specs.AllRings.{joined, estimatedFor};
 use crate::settings::ClippingPredictorMode;
 use crate::settings::Settings;
@@ -30,7 +31,6 @@ use levels::level::peak_level;
 use numbers::byte::larger;
 use numbers::byte::less;
 use numbers::byte::smaller;
-use numbers::truth::either;
 
 // What an estimate is asked with: the level, the default step, and the ends between which a new level is held.
 pub struct Asked {
@@ -46,10 +46,11 @@ pub enum Question {
     Step(Asked),
 }
 
-// How far the level is to fall, 0 for none, and whether the estimate is near.
+// How far the level is to fall, 0 for none, and the least and the largest fall that turns of near tests can lead to.
 pub struct Estimated {
     pub drop: u8,
-    pub near: bool,
+    pub low: u8,
+    pub high: u8,
 }
 
 // The largest change of gain that is asked for, in dB.
@@ -70,6 +71,66 @@ fn compute_crest_factor(l: Level) -> Decibels
     difference(peak_level(l.max), mean_square_level(l.average))
 }
 
+// A drop that no near test led to.
+fn sure(drop: u8) -> Estimated
+    ensures { λ r. ⌜ r ≡ only drop ⌝ }
+{
+    Estimated {
+        drop,
+        low: drop,
+        high: drop,
+    }
+}
+
+// After a near test: where its outcome leads, and where its turn does.
+fn both_ways(a: Estimated, b: Estimated) -> Estimated
+    ensures { λ r. ⌜ r ≡ beside a b ⌝ }
+{
+    Estimated {
+        drop: a.drop,
+        low: smaller(a.low, b.low),
+        high: larger(a.high, b.high),
+    }
+}
+
+// What a test leads to, by its outcome and whether it was near.
+fn after_test(outcome: bool, near: bool, held: Estimated, failed: Estimated) -> Estimated
+    ensures { λ r. ⌜ r ≡ tested outcome near held failed ⌝ }
+{
+    if near {
+        if outcome {
+            return both_ways(held, failed);
+        }
+        return both_ways(failed, held);
+    }
+    if outcome {
+        return held;
+    }
+    failed
+}
+
+// Whether a test is known to have an outcome: then what follows the other need not be worked out.
+fn surely(outcome: bool, near: bool) -> bool
+    ensures { λ r. ⌜ r ≡ (outcome && not near) ⌝ }
+{
+    if near {
+        return false;
+    }
+    outcome
+}
+
+// The second test of an event.
+fn event(s: Settings, window: Level, reference: Level, a: Asked) -> Estimated
+    requires { ⌜ Good s ⌝ }
+    ensures { λ r. ⌜ r ≡ estimated (crestTree (s .margin) window reference a) ⌝ }
+{
+    let crest = compute_crest_factor(window);
+    let wanted = difference(compute_crest_factor(reference), Decibels::Finite(s.margin));
+    let held = sure(drop_by(a, a.step));
+    let near = are_near(crest, wanted);
+    after_test(less_than(crest, wanted), near, held, sure(0))
+}
+
 fn predict_clipping_event(s: Settings, window: Level, reference: Level, a: Asked) -> Estimated
     requires { ⌜ Good s ⌝ }
     ensures { λ r. ⌜ r ≡ estimated (eventTree (s .threshold) (s .margin) window reference a) ⌝ }
@@ -77,22 +138,11 @@ fn predict_clipping_event(s: Settings, window: Level, reference: Level, a: Asked
     let peak = float_s16_to_dbfs(window.max);
     let threshold = Decibels::Finite(s.threshold);
     let near = are_near(peak, threshold);
-    if at_most(peak, threshold) {
-        return Estimated { drop: 0, near };
+    let quiet = at_most(peak, threshold);
+    if surely(quiet, near) {
+        return sure(0);
     }
-    let crest = compute_crest_factor(window);
-    let wanted = difference(compute_crest_factor(reference), Decibels::Finite(s.margin));
-    let nearer = either(near, are_near(crest, wanted));
-    if less_than(crest, wanted) {
-        return Estimated {
-            drop: drop_by(a, a.step),
-            near: nearer,
-        };
-    }
-    Estimated {
-        drop: 0,
-        near: nearer,
-    }
+    after_test(quiet, near, sure(0), event(s, window, reference, a))
 }
 
 // The threshold in whole dB, toward zero.
@@ -158,16 +208,15 @@ fn ceiling(a: Asked, z: i32) -> Estimated
     let k = nearest_whole(z);
     let whole = (k * 1000) as i32;
     let near = near_whole(k, z, whole);
+    if near {
+        let held = sure(adaptive_drop(a, k));
+        let failed = sure(adaptive_drop(a, k + 1));
+        return after_test(z <= whole, true, held, failed);
+    }
     if z <= whole {
-        return Estimated {
-            drop: adaptive_drop(a, k),
-            near,
-        };
+        return sure(adaptive_drop(a, k));
     }
-    Estimated {
-        drop: adaptive_drop(a, k + 1),
-        near,
-    }
+    sure(adaptive_drop(a, k + 1))
 }
 
 fn adaptive(a: Asked, projected: Decibels) -> Estimated
@@ -176,37 +225,40 @@ fn adaptive(a: Asked, projected: Decibels) -> Estimated
 {
     match projected {
         Decibels::Finite(z) => ceiling(a, z),
-        Decibels::PlusInfinity => Estimated {
-            drop: adaptive_drop(a, CLIPPING_PREDICTOR_MAX_GAIN_CHANGE),
-            near: false,
-        },
-        Decibels::MinusInfinity => Estimated {
-            drop: 0,
-            near: false,
-        },
-        Decibels::NotANumber => Estimated {
-            drop: 0,
-            near: false,
-        },
+        Decibels::PlusInfinity => sure(adaptive_drop(a, CLIPPING_PREDICTOR_MAX_GAIN_CHANGE)),
+        Decibels::MinusInfinity => no_estimate(),
+        Decibels::NotANumber => no_estimate(),
     }
 }
 
-// What follows a projected peak above the threshold, after tests of which one was near or none.
-fn above(step_is_adaptive: bool, a: Asked, projected: Decibels, near: bool) -> Estimated
+// What follows a projected peak above the threshold.
+fn above(step_is_adaptive: bool, a: Asked, projected: Decibels) -> Estimated
     requires { ⌜ Bounded projectedLimit projected ⌝ }
-    ensures { λ r. ⌜ r ≡ afterTest near (aboveTree «step_is_adaptive» a projected) ⌝ }
+    ensures { λ r. ⌜ r ≡ estimated (aboveTree «step_is_adaptive» a projected) ⌝ }
 {
     if step_is_adaptive {
-        let e = adaptive(a, projected);
-        return Estimated {
-            drop: e.drop,
-            near: either(near, e.near),
-        };
+        return adaptive(a, projected);
     }
-    Estimated {
-        drop: drop_by(a, a.step),
+    sure(drop_by(a, a.step))
+}
+
+// The second test of a peak.
+fn peak(step_is_adaptive: bool, edge: i32, window: Level, reference: Level, a: Asked) -> Estimated
+    ensures { λ r. ⌜ r ≡ estimated (projectedTree edge (projectedPeak window reference) (aboveTree «step_is_adaptive» a (projectedPeak window reference))) ⌝ }
+{
+    let projected = estimate_peak_value(window, reference);
+    let threshold = Decibels::Finite(edge);
+    let near = are_near(threshold, projected);
+    let is_above = less_than(threshold, projected);
+    if surely(!is_above, near) {
+        return sure(0);
+    }
+    after_test(
+        is_above,
         near,
-    }
+        above(step_is_adaptive, a, projected),
+        sure(0),
+    )
 }
 
 fn predict_clipping_peak(
@@ -219,21 +271,20 @@ fn predict_clipping_peak(
     requires { ⌜ Good s ⌝ }
     ensures { λ r. ⌜ r ≡ estimated (peakTree (s .threshold) window reference (aboveTree «step_is_adaptive» a (projectedPeak window reference))) ⌝ }
 {
-    let peak = float_s16_to_dbfs(window.max);
-    let threshold = Decibels::Finite(whole_db(s.threshold));
-    let near = are_near(peak, threshold);
-    if at_most(peak, threshold) {
-        return Estimated { drop: 0, near };
+    let level = float_s16_to_dbfs(window.max);
+    let edge = whole_db(s.threshold);
+    let threshold = Decibels::Finite(edge);
+    let near = are_near(level, threshold);
+    let quiet = at_most(level, threshold);
+    if surely(quiet, near) {
+        return sure(0);
     }
-    let projected = estimate_peak_value(window, reference);
-    let nearer = either(near, are_near(threshold, projected));
-    if less_than(threshold, projected) {
-        return above(step_is_adaptive, a, projected, nearer);
-    }
-    Estimated {
-        drop: 0,
-        near: nearer,
-    }
+    after_test(
+        quiet,
+        near,
+        sure(0),
+        peak(step_is_adaptive, edge, window, reference, a),
+    )
 }
 
 fn by_mode(s: Settings, window: Level, reference: Level, a: Asked) -> Estimated
@@ -257,10 +308,7 @@ fn by_mode(s: Settings, window: Level, reference: Level, a: Asked) -> Estimated
 pub fn no_estimate() -> Estimated
     ensures { λ r. ⌜ r ≡ estimated (leaf 0) ⌝ }
 {
-    Estimated {
-        drop: 0,
-        near: false,
-    }
+    sure(0)
 }
 
 fn from_windows(s: Settings, a: Asked, newest: Metrics, older: Metrics) -> Estimated
@@ -305,12 +353,13 @@ pub fn answered(s: Settings, ring: ClippingPredictorLevelBuffer, question: Quest
     }
 }
 
-// The larger drop of two estimates, and the mark of either.
+// The estimates of two channels.
 pub fn joined(a: Estimated, b: Estimated) -> Estimated
     ensures { λ r. ⌜ r ≡ joined a b ⌝ }
 {
     Estimated {
         drop: larger(a.drop, b.drop),
-        near: either(a.near, b.near),
+        low: larger(a.low, b.low),
+        high: larger(a.high, b.high),
     }
 }

@@ -23,6 +23,7 @@ use Rattle.input_volume_controller.specs.Controller.{Controller, viewOf}
 use Rattle.input_volume_controller.specs.Reply.{Reply, mark, refusal, volume, none, done, Stepped}
 use Rattle.input_volume_controller.specs.ClippedRatio.{clippedRatio}
 use Rattle.clipping_predictor.specs.AllRings.{predictedBy}
+use Rattle.input_volume_controller.specs.Differ.{differ}
 use Rattle.input_volume_controller.specs.Frame.{askedOf, handleIf, unlessWaiting, ifUsed, withVolumeApplied, unlessRefused, analyzeInputAudio}
 use Rattle.input_volume_controller.specs.Calls.{frame, recommendation, step, Does}
 use Rattle.input_volume_controller.proofs.Answers.{recommend-off, recommend-on}
@@ -51,7 +52,7 @@ waiting-tells : (t clipped : Bool) (c : Controller) → Tells c (unlessWaiting t
 waiting-tells true clipped c = record { reply-is = refl; applied-is = refl }
 waiting-tells false clipped c =
     let e = predictedBy (askedOf (c .control)) (c .predictor) in
-    handled-tells (e .near) (clipped || ltb 0 (e .drop)) (max (c .control .settings .step) (e .drop)) c
+    handled-tells (differ clipped (c .control) (e .low) (e .high)) (clipped || ltb 0 (e .drop)) (max (c .control .settings .step) (e .drop)) c
 
 used-tells : (t : Bool) (samples : ℕ) (lent : List Float) (c : Controller) → Tells c (ifUsed t samples lent c)
 used-tells true samples lent c =

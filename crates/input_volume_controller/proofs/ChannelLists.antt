@@ -1,9 +1,11 @@
 -- The channels of a controller: what the loops over them do to the list of their states. Assumes nothing.
 use mathlib.Core.Path.{_≡_, refl, sym, ap, subst, _∙_}
+use mathlib.Core.Bool.{Bool, true, false, not, _||_}
+use mathlib.Core.List.{List}
 use Prim.Native.Nat.{ℕ, zero, suc, _+_, _≤_, _<_}
 use native.Mathlib.Nat.{not-suc-le-zero}
 use native.Mathlib.Omega.{arith}
-use lib.ListN.{length, getD, drop, replicate, getD-replicate, length-replicate}
+use lib.ListN.{length, getD, drop, replicate, length-map, getD-replicate, length-replicate}
 use Rattle.numbers.specs.Listed.{listed}
 use Rattle.numbers.proofs.Listed.{length-listed, listed-same, drop-listed, drop-past, map-listed, listed-constant}
 use Rattle.numbers.proofs.Arrays.{Replaced}
@@ -13,6 +15,8 @@ use Rattle.input_volume_controller.specs.declared.channels.ChannelCall.{
 use Rattle.input_volume_controller.specs.declared.channels.Channels.{Channels}
 use Rattle.input_volume_controller.specs.declared.channels.Aggregate.{Aggregate}
 use Rattle.mono_input_volume_controller.specs.MonoState as Mono
+use Rattle.mono_input_volume_controller.specs.SameVolumes.{sameVolumes}
+use Rattle.input_volume_controller.specs.Differ.{otherVolumes}
 use Rattle.input_volume_controller.specs.Channels.{noChannel, channelAt, channelsOf, Good, Becomes, called, eachCalled, lowerOf, aggregateFrom, aggregateOf}
 
 pub count-is : (c : Channels) → length (channelsOf c) ≡ c .count
@@ -37,6 +41,10 @@ all-called call c r good e done = record {
       ap (listed (channelAt r)) e ∙ listed-same (channelAt r) (λ i. called call (channelAt c i)) (c .count) (λ i h. done .done i h .is)
       ∙ sym (map-listed (called call) (channelAt c) (c .count));
 }
+
+-- what two calls leave are as many
+pub called-alike : (c a b : Channels) (x y : ChannelCall) → Becomes (eachCalled x (channelsOf c)) a → Becomes (eachCalled y (channelsOf c)) b → b .count ≡ a .count
+called-alike c a b x y p q = sym (count-is b) ∙ ap length (q .is) ∙ length-map (channelsOf c) (called y) ∙ sym (length-map (channelsOf c) (called x)) ∙ sym (ap length (p .is)) ∙ count-is a
 
 -- ---- fresh channels
 
@@ -67,3 +75,23 @@ module _ (f : ℕ → MonoInputVolumeController) (n : ℕ) where
   pub aggregate-ends : (a : Aggregate) (i : ℕ) → n ≤ i → aggregateFrom a i (drop i (listed f n)) ≡ a
   unfolding aggregateFrom
   aggregate-ends a i h = ap (aggregateFrom a i) (drop-past f n i h)
+
+-- ---- whether some channel has other volumes
+
+module _ (f g : ℕ → MonoInputVolumeController) (n : ℕ) where
+  abbrev restDiffers : ℕ → Bool
+  restDiffers i = otherVolumes (drop i (listed f n)) (drop i (listed g n))
+
+  one-and-rest : (i : ℕ) → i < n → restDiffers i ≡ (not (sameVolumes (f i) (g i)) || restDiffers (i + 1))
+  unfolding otherVolumes
+  one-and-rest i h = λ j. otherVolumes (drop-listed f n i h j) (drop-listed g n i h j)
+
+  pub differs-here : (i : ℕ) → i < n → not (sameVolumes (f i) (g i)) ≡ true → true ≡ otherVolumes (drop i (listed f n)) (drop i (listed g n))
+  differs-here i h e = sym (one-and-rest i h ∙ ap (λ (b : Bool). b || restDiffers (i + 1)) e)
+
+  pub differs-later : (i : ℕ) → i < n → not (sameVolumes (f i) (g i)) ≡ false → otherVolumes (drop (i + 1) (listed f n)) (drop (i + 1) (listed g n)) ≡ otherVolumes (drop i (listed f n)) (drop i (listed g n))
+  differs-later i h e = sym (one-and-rest i h ∙ ap (λ (b : Bool). b || restDiffers (i + 1)) e)
+
+  pub differs-nowhere : (i : ℕ) → n ≤ i → false ≡ otherVolumes (drop i (listed f n)) (drop i (listed g n))
+  unfolding otherVolumes
+  differs-nowhere i h = sym (ap (λ (l : List MonoInputVolumeController). otherVolumes l (drop i (listed g n))) (drop-past f n i h))

@@ -3,6 +3,8 @@ pub mod ChannelLists
 pub mod Volumes
 pub mod Built
 pub mod Whole
+pub mod TwoDrops
+pub mod Marks
 pub mod Answers
 pub mod Numbered
 pub mod Says

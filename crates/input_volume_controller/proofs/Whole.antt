@@ -28,6 +28,7 @@ use Rattle.input_volume_controller.specs.Control as ControlOf
 use Rattle.input_volume_controller.specs.ControlCalls.{lowerChannels, oneFrameMore}
 use Rattle.input_volume_controller.specs.Controller.{Controller, together, viewOf, Good, Becomes}
 use Rattle.input_volume_controller.specs.Reply.{Reply, mark, Stepped}
+use Rattle.input_volume_controller.specs.Differ.{differ}
 use Rattle.input_volume_controller.specs.Frame.{askedOf, handled, unlessWaiting}
 use Rattle.input_volume_controller.specs.Calls.{Call, Typed, Does, ControlDoes, Framed}
 use Rattle.input_volume_controller.proofs.ChannelLists.{count-is}
@@ -145,9 +146,9 @@ module _ (clipped : Bool) (since wait : ℕ) (c : Controller) where
   not-waiting h = rw (le-ltb since wait h)
 
 module _ (clipped : Bool) (e : Estimated) (c : Controller) where
-  pub not-handled : (clipped || ltb 0 (e .drop)) ≡ false → handled clipped e c ≡ record { reply = mark (e .near); state = c }
+  pub not-handled : (clipped || ltb 0 (e .drop)) ≡ false → handled clipped e c ≡ record { reply = mark (differ clipped (c .control) (e .low) (e .high)); state = c }
   not-handled t = rw t
 
   pub is-handled : (clipped || ltb 0 (e .drop)) ≡ true
-      → handled clipped e c ≡ record { reply = mark (e .near); state = record { control = lowerChannels (max (c .control .settings .step) (e .drop)) (c .control); predictor = emptied (c .predictor) } }
+      → handled clipped e c ≡ record { reply = mark (differ clipped (c .control) (e .low) (e .high)); state = record { control = lowerChannels (max (c .control .settings .step) (e .drop)) (c .control); predictor = emptied (c .predictor) } }
   is-handled t = rw t

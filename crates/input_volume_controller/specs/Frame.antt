@@ -23,6 +23,7 @@ use Rattle.mono_input_volume_controller.specs.MonoState.{maxInputVolume}
 use Rattle.input_volume_controller.specs.Control.{Control}
 use Rattle.input_volume_controller.specs.ControlCalls.{withAppliedInputVolume, lowerChannels, oneFrameMore}
 use Rattle.input_volume_controller.specs.Controller.{Controller}
+use Rattle.input_volume_controller.specs.Differ.{differ}
 use Rattle.input_volume_controller.specs.Reply.{mark, refusal, Stepped}
 
 -- "each channel's estimate is asked with the controller's volume as level, clipped_level_step as default step, clipped_level_min as min and 255 as max"
@@ -42,8 +43,14 @@ abbrev pub handleIf : Bool → ℕ → Controller → Controller
 handleIf true step c = record { control = lowerChannels step (c .control); predictor = emptied (c .predictor) }
 handleIf false step c = c
 
+-- what a joined drop returns, 0 for none
+abbrev pub returnedBy : Bool → ℕ → Controller → Controller
+returnedBy clipped drop c = handleIf (clipped || ltb 0 drop) (max (c .control .settings .step) drop) c
+
+-- Document 02 (iii): "a frame is marked exactly if putting a near comparison or ceiling on its other side .. would change the frame's returned state". As the code has it: if the least and the largest
+-- drop that such turns can lead to return different states, since between two drops that return the same state every drop does. That it comes to the words is the claim `MarkedExactly`.
 abbrev pub handled : Bool → Estimated → Controller → Stepped
-handled clipped e c = record { reply = mark (e .near); state = handleIf (clipped || ltb 0 (e .drop)) (max (c .control .settings .step) (e .drop)) c }
+handled clipped e c = record { reply = mark (differ clipped (c .control) (e .low) (e .high)); state = returnedBy clipped (e .drop) c }
 
 -- its volume is applied
 abbrev pub withVolumeApplied : ℕ → Controller → Controller

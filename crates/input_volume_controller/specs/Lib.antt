@@ -4,6 +4,7 @@ pub mod Control
 pub mod ControlCalls
 pub mod Controller
 pub mod Reply
+pub mod Differ
 pub mod Frame
 pub mod Recommendation
 pub mod Calls

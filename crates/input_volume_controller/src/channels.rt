@@ -7,10 +7,12 @@ ghost use Rattle.mono_input_volume_controller.specs.Config.{Good as GoodSetting
 ghost use Rattle.mono_input_volume_controller.specs.MonoState.{Good as GoodChannel, Becomes as BecomesChannel};
 ghost use Rattle.mono_input_volume_controller.specs.Mono.{created};
 ghost use Rattle.input_volume_controller.specs.Channels.{Good, Becomes, called, channelsOf, eachCalled, lowerOf, aggregateOf};
+ghost use Rattle.input_volume_controller.specs.Differ.{otherVolumes, lowerDifferently};
 use clipping_predictor::MAX_CHANNELS;
 use mono_input_volume_controller::config::Settings;
 use mono_input_volume_controller::mono::MAX_INPUT_VOLUME;
 use mono_input_volume_controller::mono::MonoInputVolumeController;
+use mono_input_volume_controller::mono::other_volumes;
 use mono_input_volume_controller::speech_level::RmsError;
 
 // A call that every channel gets.
@@ -119,5 +121,27 @@ impl Channels {
             a = lower_of(a, m.volume, i);
         }
         a
+    }
+
+    // Whether two steps of a clipping leave some channel different.
+    pub fn lower_differently(self, step: u8, other: u8) -> bool
+        requires { ⌜ Good self ⌝ }
+        ensures { λ r. ⌜ r ≡ lowerDifferently step other (channelsOf self) ⌝ }
+    {
+        let one = self.each(ChannelCall::Clipping(step));
+        one.differ_from(self.each(ChannelCall::Clipping(other)))
+    }
+
+    // Whether a channel has other volumes than the same one of as many others.
+    fn differ_from(self, others: Channels) -> bool
+        requires { ⌜ Good self × (others .count ≡ self .count) ⌝ }
+        ensures { λ r. ⌜ r ≡ otherVolumes (channelsOf self) (channelsOf others) ⌝ }
+    {
+        for i in 0..self.count {
+            if other_volumes(self.items[i], others.items[i]) {
+                return true;
+            }
+        }
+        false
     }
 }

@@ -9,7 +9,8 @@ ghost use Rattle.clipping_predictor.specs.Predictor.{viewOf as predictorOf};
 ghost use Rattle.clipping_predictor.specs.AllRings.{predictedFor};
 ghost use Rattle.input_volume_controller.specs.ClippedRatio.{clippedRatio};
 ghost use Rattle.input_volume_controller.specs.Controller.{together, viewOf, Good};
-ghost use Rattle.input_volume_controller.specs.Control.{controlOf};
+ghost use Rattle.input_volume_controller.specs.Control.{controlOf, Good as GoodControl};
+ghost use Rattle.input_volume_controller.specs.Differ.{differ};
 ghost use Rattle.input_volume_controller.specs.Frame.{questionOf, handled, unlessWaiting, ifUsed};
 ghost use Rattle.input_volume_controller.specs.Calls.{Framed};
 use crate::Analysis;
@@ -41,6 +42,30 @@ fn question(control: VolumeControl) -> Question
     })
 }
 
+// Whether two drops, 0 for none, return different states. Nothing is tried where they are one, as in nearly every frame.
+fn differ(clipped: bool, control: VolumeControl, drop: u8, other: u8) -> bool
+    requires { ⌜ GoodControl control ⌝ }
+    ensures { λ r. ⌜ r ≡ differ clipped (controlOf control) drop other ⌝ }
+{
+    if drop == other {
+        return false;
+    }
+    let one = either(clipped, 0 < drop);
+    let two = either(clipped, 0 < other);
+    if !one {
+        return two;
+    }
+    if !two {
+        return true;
+    }
+    let step = control.settings.step;
+    let channels = control.channels;
+    channels.lower_differently(
+        numbers::byte::larger(step, drop),
+        numbers::byte::larger(step, other),
+    )
+}
+
 // The wait is over: clipping that is seen or predicted lowers every channel and empties the rings.
 fn tested(
     control: VolumeControl,
@@ -51,15 +76,16 @@ fn tested(
     requires { ⌜ Good (together control predictor) ⌝ }
     ensures { λ r. ⌜ Framed (handled clipped e (viewOf (together control predictor))) r ⌝ }
 {
+    let near = differ(clipped, control, e.low, e.high);
     if !either(clipped, 0 < e.drop) {
         return Analyzed {
-            answer: Analysis::Accepted(e.near),
+            answer: Analysis::Accepted(near),
             controller: InputVolumeController { control, predictor },
         };
     }
     let step = numbers::byte::larger(control.settings.step, e.drop);
     Analyzed {
-        answer: Analysis::Accepted(e.near),
+        answer: Analysis::Accepted(near),
         controller: InputVolumeController {
             control: lower_channels(control, step),
             predictor: predictor.reset(),

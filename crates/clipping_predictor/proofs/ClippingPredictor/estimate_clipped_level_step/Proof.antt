@@ -10,7 +10,8 @@ use Rattle.clipping_predictor_level_buffer.specs.declared.level.Level.{Level}
 use Rattle.clipping_predictor_level_buffer.specs.Ring.{stored}
 use Rattle.clipping_predictor.specs.declared.Arguments.{Arguments}
 use Rattle.clipping_predictor.specs.declared.Arguments.the-variants.{Given}
-use Rattle.clipping_predictor.specs.Estimate.{estimateTree, estimated}
+use Rattle.clipping_predictor.specs.Turned.{estimated}
+use Rattle.clipping_predictor.specs.Estimate.{estimateTree}
 use Rattle.clipping_predictor.specs.Predictor.{ringAt, viewOf}
 use Rattle.clipping_predictor.specs.EstimateCall.{argumentsOf, answered, estimateSays, estimateOf}
 use Rattle.clipping_predictor.proofs.Given.{channel-below}
@@ -63,12 +64,12 @@ returns c = sym (ap (λ (a : Arguments). estimateSays (estimateOf (viewOf (c .be
 returns-2 : tie.Need-returns-2
 unfolding estimateOf viewOf
 returns-2 c =
-    let k = c .before .before .before .before in
+    let k = c .before .before .before .before .before in
     let p = k .before .before .before .before .args .t1 in
     let n = k .before .given2 .given .0 .0 in
     let a = k .before .given2 .given .0 .1 .0 in
     ap estimateSays
-    (c .answer-of .ensures ∙ ap answered (c .before .estimate-for .ensures)
+    (c .answer-of .ensures ∙ ap answered (c .before .before .estimate-for .ensures)
     ∙ sym (ap (λ (r : List Level). answered (estimated (estimateTree (p .settings) r a))) (getD-listed (λ c. stored (ringAt p c)) (p .channels) n [] (below k)))
     ∙ sym (ap (estimateOf (viewOf p)) (given-is k)))
 

@@ -1,7 +1,8 @@
 -- `clipping_predictor::modes::by_mode` meets its contract, mode by mode. Assumes nothing.
 use mathlib.Core.Path.{_≡_, sym, ap, _∙_}
 use Rattle.clipping_predictor.specs.declared.settings.ClippingPredictorMode.{ClippingPredictorMode}
-use Rattle.clipping_predictor.specs.Estimate.{modeTree, estimated}
+use Rattle.clipping_predictor.specs.Turned.{estimated}
+use Rattle.clipping_predictor.specs.Estimate.{modeTree}
 use borrow.Author.Needs.{needs}
 use Rattle.clipping_predictor.proofs.modes.by_mode.Statement.{statement}
 use Rattle.clipping_predictor.proofs.modes.by_mode.Tie as tie

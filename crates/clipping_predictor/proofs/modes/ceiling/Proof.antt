@@ -1,4 +1,4 @@
--- `clipping_predictor::modes::ceiling` meets its contract, by its test. Assumes nothing.
+-- `modes::ceiling` meets its contract, by its test. Assumes nothing.
 use mathlib.Core.Path.{_≡_, sym, ap, _∙_}
 use mathlib.Core.Bool.{Bool, _&&_}
 use Prim.Native.Nat.{ℕ, _+_, _*_, _≤_}
@@ -10,8 +10,9 @@ use mir.Syntax.{w32}
 use mir.ValLaws.{toZ-ofZ, toZ-pos}
 use Rattle.levels.specs.declared.decibels.Decibels.the-variants.{Finite}
 use Rattle.levels.specs.Decibels.{near}
+use Rattle.clipping_predictor.specs.Turned.{only, tested, estimated}
 use Rattle.clipping_predictor.specs.Estimate.{maxGainChange, nearestWhole, adaptiveDrop}
-use Rattle.clipping_predictor.proofs.Paths.{at-leaf, held, failed}
+use Rattle.clipping_predictor.proofs.Paths.{held-sure, failed-sure}
 use Rattle.clipping_predictor.proofs.Signed.{whole-room}
 use borrow.Author.Needs.{needs}
 use Rattle.clipping_predictor.proofs.modes.ceiling.Statement.{statement}
@@ -57,29 +58,64 @@ near-whole-requires c κs = search needs
 adaptive-drop-requires : tie.Need-adaptive-drop-requires
 adaptive-drop-requires c κs = search needs
 
-returns : tie.Need-returns
-returns c =
-    let n = c .before .before in
-    let s = n .before .before in
-    let k = nearest (n .before) in
-    (λ i. record { drop = (c .adaptive-drop .ensures ∙ ap (adaptiveDrop (s .args .a)) k) i; near = nearness n i })
-    ∙ sym (at-leaf (mark (s .args .z)) (adaptiveDrop (s .args .a) (nearestWhole (s .args .z))))
-    ∙ sym (held _ _ _ _ (sym (test-is n) ∙ c .before .if1 .taken))
+sure-requires : tie.Need-sure-requires
+sure-requires c κs = search needs
 
 add-adaptive-drop : tie.Need-add-adaptive-drop
-add-adaptive-drop c = omega (arith, room (c .before .before))
+add-adaptive-drop c = omega (arith, room (c .before .before .before .before))
 
 adaptive-drop-requires-2 : tie.Need-adaptive-drop-requires-2
 adaptive-drop-requires-2 c κs = search needs
 
-returns-2 : tie.Need-returns-2
-returns-2 c =
-    let n = c .before .before in
+sure-requires-2 : tie.Need-sure-requires-2
+sure-requires-2 c κs = search needs
+
+after-test-requires : tie.Need-after-test-requires
+after-test-requires c κs = search needs
+
+returns : tie.Need-returns
+unfolding estimated
+returns c =
+    let n = c .before .before .before .before .before .before in
     let s = n .before .before in
     let k = nearest (n .before) in
-    (λ i. record { drop = (c .adaptive-drop2 .ensures ∙ ap (λ (m : ℕ). adaptiveDrop (s .args .a) (m + 1)) k) i; near = nearness n i })
-    ∙ sym (at-leaf (mark (s .args .z)) (adaptiveDrop (s .args .a) (nearestWhole (s .args .z) + 1)))
-    ∙ sym (failed _ _ _ _ (sym (test-is n) ∙ c .before .if1 .left))
+    let u = c .before in
+    let v = u .before .before in
+    c .after-test .ensures
+    ∙ (λ i. tested (test-is n i) ((sym (c .before .before .before .before .before .if1 .taken) ∙ nearness n) i) ((v .sure .ensures ∙ ap only (v .before .adaptive-drop .ensures ∙ ap (adaptiveDrop (s .args .a)) k)) i) ((u .sure2 .ensures ∙ ap only (u .before .adaptive-drop2 .ensures ∙ ap (λ (m : ℕ). adaptiveDrop (s .args .a) (m + 1)) k)) i))
+
+adaptive-drop-requires-3 : tie.Need-adaptive-drop-requires-3
+adaptive-drop-requires-3 c κs = search needs
+
+sure-requires-3 : tie.Need-sure-requires-3
+sure-requires-3 c κs = search needs
+
+returns-2 : tie.Need-returns-2
+unfolding estimated
+returns-2 c =
+    let n = c .before .before .before .before in
+    let s = n .before .before in
+    let k = nearest (n .before) in
+    c .sure3 .ensures ∙ ap only (c .before .adaptive-drop3 .ensures ∙ ap (adaptiveDrop (s .args .a)) k)
+    ∙ held-sure _ (mark (s .args .z)) (only (adaptiveDrop (s .args .a) (nearestWhole (s .args .z)))) (only (adaptiveDrop (s .args .a) (nearestWhole (s .args .z) + 1))) (sym (nearness n) ∙ c .before .before .before .if1 .left) (sym (test-is n) ∙ c .before .before .if2 .taken)
+
+add-adaptive-drop-2 : tie.Need-add-adaptive-drop-2
+add-adaptive-drop-2 c = omega (arith, room (c .before .before .before))
+
+adaptive-drop-requires-4 : tie.Need-adaptive-drop-requires-4
+adaptive-drop-requires-4 c κs = search needs
+
+sure-requires-4 : tie.Need-sure-requires-4
+sure-requires-4 c κs = search needs
+
+returns-3 : tie.Need-returns-3
+unfolding estimated
+returns-3 c =
+    let n = c .before .before .before .before in
+    let s = n .before .before in
+    let k = nearest (n .before) in
+    c .sure4 .ensures ∙ ap only (c .before .adaptive-drop4 .ensures ∙ ap (λ (m : ℕ). adaptiveDrop (s .args .a) (m + 1)) k)
+    ∙ failed-sure _ (mark (s .args .z)) (only (adaptiveDrop (s .args .a) (nearestWhole (s .args .z)))) (only (adaptiveDrop (s .args .a) (nearestWhole (s .args .z) + 1))) (sym (nearness n) ∙ c .before .before .before .if1 .left) (sym (test-is n) ∙ c .before .before .if2 .left)
 
 pub ceiling-spec : {M : Type 1} → statement M
 ceiling-spec =
@@ -90,7 +126,16 @@ ceiling-spec =
     cast-whole
     near-whole-requires
     adaptive-drop-requires
-    returns
+    sure-requires
     add-adaptive-drop
     adaptive-drop-requires-2
-    returns-2)
+    sure-requires-2
+    after-test-requires
+    returns
+    adaptive-drop-requires-3
+    sure-requires-3
+    returns-2
+    add-adaptive-drop-2
+    adaptive-drop-requires-4
+    sure-requires-4
+    returns-3)

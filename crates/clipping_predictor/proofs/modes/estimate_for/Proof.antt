@@ -6,7 +6,8 @@ use Rattle.clipping_predictor_level_buffer.specs.declared.Metrics.{Metrics}
 use Rattle.clipping_predictor_level_buffer.specs.Ring.{stored}
 use Rattle.clipping_predictor_level_buffer.specs.Metrics.{partialMetrics}
 use Rattle.clipping_predictor_level_buffer.proofs.Says.{metrics-fixed}
-use Rattle.clipping_predictor.specs.Estimate.{windowsTree, estimated}
+use Rattle.clipping_predictor.specs.Turned.{estimated}
+use Rattle.clipping_predictor.specs.Estimate.{windowsTree}
 use Rattle.clipping_predictor.proofs.Windows.{off, low, on}
 use borrow.Author.Needs.{needs}
 use Rattle.clipping_predictor.proofs.modes.estimate_for.Statement.{statement}

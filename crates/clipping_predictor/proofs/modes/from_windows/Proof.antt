@@ -1,7 +1,8 @@
 -- `clipping_predictor::modes::from_windows` meets its contract, case by case. Assumes nothing.
 use mathlib.Core.Path.{sym, ap, ap₂, _∙_}
 use Rattle.clipping_predictor_level_buffer.specs.declared.Metrics.{Metrics}
-use Rattle.clipping_predictor.specs.Estimate.{windowsTree, estimated}
+use Rattle.clipping_predictor.specs.Turned.{estimated}
+use Rattle.clipping_predictor.specs.Estimate.{windowsTree}
 use borrow.Author.Needs.{needs}
 use Rattle.clipping_predictor.proofs.modes.from_windows.Statement.{statement}
 use Rattle.clipping_predictor.proofs.modes.from_windows.Tie as tie
