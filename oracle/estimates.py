@@ -6,15 +6,16 @@ usage: estimates.py ORACLE REPLAY [COUNT [SEED [edges]]]
 ORACLE is the driver over the unchanged Rust (`probe` of rust/), REPLAY the program of crates/replay. Both get the same commands: predictors of one to eight
 channels, frames whose peaks lie around the threshold, with infinite and not-a-number samples among them, and estimates, some of them out of range. With `edges`: predictors of windows 1, 1, 1 and two frames
 that bring the sides of a comparison, or a P and a whole dB, within 15 thousandths of each other.
-An unmarked answer must be the Rust's; a refusal must be the one of document 01's table; drop and mark must be those of the words (marks.py). Prints what was compared, each line that differs, and
-how far from an edge, in thousandths, the sides of the port lay where the Rust's answer is on the other side of it.
+An unmarked answer must be the Rust's; a refusal must be the one of document 01's table; drop and mark must be those of the words (marks.py), and no estimate may be marked that reaches no near
+test. Prints what was compared, how many estimates reach a near test, which document 01 marked before 02 (iii), each line that differs, and how far from an edge, in thousandths, the sides of the port
+lay where the Rust's answer is on the other side of it.
 """
 import collections
 import random
 import subprocess
 import sys
 
-from marks import EDGES, Predictor, bits, drawn, drop, shown, threshold_for, turned
+from marks import EDGES, Predictor, bits, drawn, drop, newest, reaches_near, shown, threshold_for, turned
 
 PIECE = 400_000  # bytes of commands for one run of the two programs; each piece starts with a new predictor
 
@@ -120,7 +121,7 @@ def followed(predictor, command, answer):
     if command[0] == "P":
         return Predictor(list(map(int, command.split(" ")[1:])))
     if command[0] == "F":
-        predictor.push(answer.split(" ")[1:])
+        predictor.push(newest(answer))
     else:
         predictor.reset()
     return predictor
@@ -138,17 +139,19 @@ def compared(counts, turns, predictor, command, cause, rust, port):
         return port == cause
     channel, *asked = map(int, command.split(" ")[1:])
     tests = predictor.tree(channel, asked[0], asked[2])
+    marked_before = reaches_near(tests)
+    counts["reached_near"] += marked_before
     if answer != rust and near:
         counts["marked_apart"] += 1
         turns[turned(tests, lambda leaf: drop(leaf, *asked) == (0 if rust == "none" else int(rust)))] += 1
-    return port == shown(tests, *asked) and (answer == rust or near)
+    return port == shown(tests, *asked) and (answer == rust or near) and (marked_before or not near)
 
 
 def main():
     oracle, replay = sys.argv[1:3]
     wanted = int(sys.argv[3]) if len(sys.argv) > 3 else 1_000_000
     rnd = random.Random(int(sys.argv[4]) if len(sys.argv) > 4 else 1)
-    counts = dict(estimates=0, frames=0, refused=0, drops=0, marked=0, marked_apart=0, differ=0)
+    counts = dict(estimates=0, frames=0, refused=0, drops=0, reached_near=0, marked=0, marked_apart=0, differ=0)
     turns = collections.Counter()
     draw = piece_of_edges if sys.argv[5:] == ["edges"] else piece
     while counts["estimates"] < wanted:

@@ -1,12 +1,13 @@
 #!/usr/bin/env python3
 """Frame lines: those that the gate runs beside document 01's example, and many for a measurement.
 
-    lines.py gather CRATE DIR ..    writes CRATE/stdin and CRATE/stdout from the supplied frame-line files of the folders, the answers of a later one in place of those of an earlier one
+    lines.py gather CRATE DIR ..    writes CRATE/stdin and CRATE/stdout from the supplied frame-line files of the folders; one that has answers alone gives them in place of those of the folder before
     lines.py many LINES SEED     writes LINES lines of 480 samples to standard output
     lines.py measure TEXT PROGRAM ..   runs each PROGRAM on TEXT, in turns, 15 times: the least and the most seconds
 
 What `gather` writes: the bytes of each file and behind them a byte 28, which no file has (it is ASCII's separator of files); and the expected answers of all files one after another, as they were supplied.
-A file with a line for which several answers are supplied, one for each choice of levels that is allowed, is left out. Answers NAME.old.exp are those before request (iii), and are taken where they are.
+A file with a line for which several answers are supplied, one for each choice of levels that is allowed, is left out. Answers NAME.old.exp are from before request (iii), and are passed over; NAME.x.exp
+are those after request (x), and are taken in place of NAME.exp.
 """
 import os
 import random
@@ -18,16 +19,26 @@ import time
 SEPARATOR = bytes([28])
 
 
+def texts_in(folder):
+    """The names of a folder's files of frame lines."""
+    return [name.removesuffix(".in") for name in os.listdir(folder) if name.endswith(".in") and not name.endswith(".replay.in")]
+
+
+def answers_in(folder):
+    """The path of the answers to each name."""
+    names = [name.removesuffix(".exp") for name in os.listdir(folder) if name.endswith(".exp") and not name.endswith(".old.exp")]
+    return {name.removesuffix(".x"): f"{folder}/{name}.exp" for name in sorted(names, key=lambda name: name.endswith(".x"))}
+
+
 def supplied(folders):
-    """The paths of each file of frame lines and of its answers, in order of their names."""
-    texts, answers = {}, {}
+    """The paths of each file of frame lines and of its answers, in order of their names; equal names, of several folders, in order of these."""
+    texts, answers, place = {}, {}, 0
     for folder in folders:
-        for name in sorted(os.listdir(folder)):
-            if name.endswith(".exp"):
-                answers[name.removesuffix(".exp")] = f"{folder}/{name}"
-            elif name.endswith(".in") and not name.endswith(".replay.in"):
-                texts[name.removesuffix(".in")] = f"{folder}/{name}"
-    return [(texts[name], answers.get(name + ".old", answers[name])) for name in sorted(texts)]
+        names = texts_in(folder)
+        place += bool(names)
+        texts.update({(name, place): f"{folder}/{name}.in" for name in names})
+        answers.update({(name, place): path for name, path in answers_in(folder).items()})
+    return [(texts[name], answers[name]) for name in sorted(texts)]
 
 
 def gather(crate, folders):

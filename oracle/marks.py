@@ -1,8 +1,11 @@
 #!/usr/bin/env python3
-"""What an estimate compares, drops and marks, from the words of documents 01 and 02 (x), over the levels of levels.py.
+"""What an estimate compares, drops and marks, from the words of documents 01 and 02 (iii) and (x), over the levels of levels.py.
 
 usage: marks.py lines     prints `COMMAND => ANSWER` for the lines that crates/replay keeps: each edge of each mode, with sides 6 and 7 apart, either way
        marks.py stored    every estimate in crates/replay/stdout must have the drop and the mark of the words
+
+Document 01 has what an estimate tests, and what it drops; 02 (x) that a test is near with sides 6 apart or less; 02 (iii) that an estimate is marked exactly if near tests, one or several of them
+turned, lead to another drop.
 
 From the repository's root, once the driver's files are restored (README.md): the gains are read from the original. Exits with 1 if an answer differs.
 """
@@ -109,8 +112,21 @@ def path(t):
 
 
 def is_near(t):
-    """Whether a test that is reached has sides that are near."""
+    """Whether the sides of a test are near."""
+    return t[1] <= NEAR
+
+
+def reaches_near(t):
+    """Whether a test that is reached is near: what document 01 marked before 02 (iii)."""
     return any(apart <= NEAR for _, apart in path(t))
+
+
+def leaves(t):
+    """The leaves that turns of near tests can reach: a near test may go either way, every other goes its own."""
+    if is_leaf(t):
+        return [t]
+    ways = t[2:] if is_near(t) else [t[2] if t[0] else t[3]]
+    return [leaf for way in ways for leaf in leaves(way)]
 
 
 def turned(t, dropped):
@@ -145,7 +161,7 @@ def drop(leaf, level, step, least, most):
 
 
 class Predictor:
-    """The rings of a predictor, and what its estimates are."""
+    """The rings of a predictor, and what its estimates test."""
 
     def __init__(self, fields):
         self.channels, self.on, self.mode, self.window, self.reference, self.delay, self.threshold, self.margin = fields
@@ -156,10 +172,9 @@ class Predictor:
         self.known = {}
 
     def push(self, records):
-        """The newest record of each ring, as the answer to a frame has it."""
-        for ring, text in zip(self.rings, records):
-            _, mean, top = text.split(":")
-            ring.insert(0, (value(int(mean, 16)), value(int(top, 16))))
+        """One record more, mean square and peak, for each ring."""
+        for ring, entry in zip(self.rings, records):
+            ring.insert(0, entry)
             del ring[self.delay + self.reference :]
         self.known = {}
 
@@ -173,20 +188,35 @@ class Predictor:
         return self.known[channel]
 
 
-def shown(t, level, step, least, most):
+def newest(answer):
+    """The newest record of each ring, as the answer to a frame has it."""
+    for text in answer.split(" ")[1:]:
+        _, mean, peak = text.split(":")
+        yield value(int(mean, 16)), value(int(peak, 16))
+
+
+def is_marked(t, asked):
+    """Whether turns of near tests lead to another drop."""
+    own = drop(reached(t), *asked)
+    return any(drop(leaf, *asked) != own for leaf in leaves(t))
+
+
+def shown(t, *asked):
     """The answer in words."""
-    to = drop(reached(t), level, step, least, most)
-    return (str(to) if to else "none") + (" n" if is_near(t) else "")
+    to = drop(reached(t), *asked)
+    return (str(to) if to else "none") + (" n" if is_marked(t, asked) else "")
 
 
 # ---- lines at the edges
 
 def record(samples):
     """Mean square and peak of a frame."""
-    total = 0.0
-    for s in samples:
-        total = rounded(total + rounded(value(s) * value(s)))
-    return rounded(total / len(samples)), max(abs(value(s)) for s in samples)
+    total, peak = 0.0, 0.0
+    for s in map(value, samples):
+        total = rounded(total + rounded(s * s))
+        if abs(s) > peak:
+            peak = abs(s)
+    return rounded(total / len(samples)), peak
 
 
 def frame(mean, crest):
@@ -265,7 +295,7 @@ def stored():
             if kind == "P" and not answer.startswith("!"):
                 predictor = Predictor(list(map(int, fields)))
             elif kind == "F" and answer.startswith("ok"):
-                predictor.push(answer.split(" ")[1:])
+                predictor.push(newest(answer))
             elif kind == "X":
                 predictor.reset()
             elif kind == "E" and not answer.startswith("!"):
