@@ -221,10 +221,11 @@ static void the_example(void) {
     CHECK(agc2_recommended_input_volume(&c) == 0xb9);
 }
 
-/* With the tenth frame the windows are full, and its peak is compared with the threshold of -1 dB: 29,226 lies six thousandths of a dB above it, 29,229 seven. */
+/* With the tenth frame the windows are full, and its peak is compared with the threshold of -1 dB: 29,226 lies six thousandths of a dB above it, 29,229 seven. 32,766
+ * lies one below a whole dB, but both sides of it lead to the same step, and so to the same state. */
 static void marks(void) {
-    static const float samples[2] = {29226, 29229};
-    for (int k = 0; k < 2; k++) {
+    static const float samples[3] = {29226, 29229, 32766};
+    for (int k = 0; k < 3; k++) {
         agc2_controller c;
         CHECK(agc2_new(&c, 1, agc2_default_config()) == 0);
         for (int frame = 0; frame < 10; frame++)

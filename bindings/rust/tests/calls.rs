@@ -18,10 +18,11 @@ fn the_example() {
     assert_eq!(c.recommended_input_volume(), 0xb9);
 }
 
-/// With the tenth frame the windows are full, and its peak is compared with the threshold of -1 dB: 29,226 lies six thousandths of a dB above it, 29,229 seven.
+/// With the tenth frame the windows are full, and its peak is compared with the threshold of -1 dB: 29,226 lies six thousandths of a dB above it, 29,229 seven. 32,766 lies one below a whole dB, but both
+/// sides of it lead to the same step, and so to the same state.
 #[test]
 fn near_is_six_thousandths() {
-    for (sample, near) in [(29226.0, true), (29229.0, false)] {
+    for (sample, near) in [(29226.0, true), (29229.0, false), (32766.0, false)] {
         let mut c = made(1);
         for _ in 0..9 {
             assert_eq!(c.analyze_input_audio(100, 1, &[sample]), Ok(Accepted { near: false }));

@@ -49,7 +49,7 @@ use Rattle.input_volume_controller.specs.Recommendation.{recommendIf, unlessNon
 use Rattle.input_volume_controller.specs.Calls.{after, step, frame, recommendation}
 use Rattle.input_volume_controller.proofs.Marks.{is-mark, handled-marked}
 use Rattle.claims.specs.Past.{isNumber, isAccepted}
-use Rattle.claims.specs.Marked.{MayEstimate, EstimateMatters, frameWith, FrameMatters, replyAfter, MarkedExactly}
+use Rattle.claims.specs.Marked.{MayEstimate, EstimateMatters, frameWith, FrameMatters, replyAfter, replyToSilence, MarkedExactly}
 use Rattle.claims.proofs.Lists.{and-l, and-r, is-true}
 use Rattle.claims.proofs.Runs.{number-is}
 use Rattle.claims.proofs.MayEstimate.{may-same}
@@ -156,17 +156,19 @@ never-marked : (c : Controller) (probability : Float) (level : SpeechLevel) (nea
 unfolding isMark recommendInputVolume
 never-marked c probability level near e = clash (sym (ap isMark e) ∙ recommended-unmarked (c .control .applied) probability level c)
 
--- ---- four frames
+-- ---- six frames
 
 record Shown : Type 0 where
   at-six : replyAfter 9 29226 ≡ mark true
   at-seven : replyAfter 9 29229 ≡ mark false
   missing : replyAfter 8 29226 ≡ mark false
   alike : replyAfter 9 32766 ≡ mark false
+  both : replyToSilence (pos 5) ≡ mark true
+  alone : replyToSilence (pos 500) ≡ mark false
 
 computed : Shown
 unfolding listed withinOf minus less atMost within magnitudeOf Decibel.levelOf dbfs gain walk first frameRecord metricsOver partialMetrics sum mean largest dropBy adaptiveDrop estimateTree pushEach frameFits estimated lowerDifferently differ otherVolumes sameVolumes isUsers withInputVolume handledClipping after called aggregateOf countOf clippedIn mostClipped clippedRatio defaults settingsFrom withAppliedInputVolume lowerChannels analyzeInputAudio ofInt ofBits add mul div lt le
-computed = record { at-six = refl; at-seven = refl; missing = refl; alike = refl }
+computed = record { at-six = refl; at-seven = refl; missing = refl; alike = refl; both = refl; alone = refl }
 
 -- THE CLAIM
 pub marked-exactly : MarkedExactly
@@ -179,4 +181,6 @@ marked-exactly = record {
   one-unmarked = computed .at-seven;
   one-missing = computed .missing;
   one-alike = computed .alike;
+  two-turns = computed .both;
+  one-turn-alone = computed .alone;
 }

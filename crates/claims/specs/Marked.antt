@@ -31,7 +31,7 @@ use Rattle.clipping_predictor.specs.Predictor.{enteredIf}
 use Rattle.mono_input_volume_controller.specs.declared.speech_level.SpeechLevel.{SpeechLevel}
 use Rattle.mono_input_volume_controller.specs.Config.{defaults, settingsFrom}
 use Rattle.input_volume_controller.specs.ControlCalls.{withAppliedInputVolume}
-use Rattle.input_volume_controller.specs.Controller.{Controller, fresh}
+use Rattle.input_volume_controller.specs.Controller.{Controller, freshWith, fresh}
 use Rattle.input_volume_controller.specs.Reply.{Reply, mark, Stepped}
 use Rattle.input_volume_controller.specs.Frame.{askedOf, frameBy}
 use Rattle.input_volume_controller.specs.Calls.{Call, frame, recommendation, step, after}
@@ -129,7 +129,7 @@ pub record FrameMatters (c : Controller) (volume samples : ℕ) (lent : List Flo
   pub may : Each (λ (records : List Level). MayEstimate (c .predictor .settings) records (askedOf (withAppliedInputVolume volume (c .control)))) (enteredIf true samples lent (c .predictor) .rings) drops
   pub changes : frameWith drops (pos volume) samples lent c .state ≡ step c (frame (pos volume) samples lent) .state → ⊥
 
--- ---- four frames
+-- ---- six frames
 
 -- a frame of one sample, and the reply to one that comes after so many others like it on a fresh controller of one channel with the default settings. With the tenth its windows are full.
 abbrev pub frameOf : ℕ → Call
@@ -137,6 +137,13 @@ frameOf sample = frame (pos 100) 1 (ofInt binary32 (pos sample) ∷ [])
 
 abbrev pub replyAfter : ℕ → ℕ → Reply
 replyAfter count sample = step (after (fresh (settingsFrom defaults) 1) (replicate count (frameOf sample))) (frameOf sample) .reply
+
+-- the reply to the second of two silent frames, where the predictor looks for events in windows of one frame, with a threshold 5 above the level of silence; `negsuc 90304` is -90,305
+abbrev pub eventWith : ℤ → Settings
+eventWith margin = record { enabled = true; mode = ClippingEventPrediction; window = 1; reference = 1; delay = 1; threshold = negsuc 90304; margin = margin }
+
+abbrev pub replyToSilence : ℤ → Reply
+replyToSilence margin = step (after (freshWith (eventWith margin) (settingsFrom defaults) 1) (frameOf 0 ∷ [])) (frameOf 0) .reply
 
 -- THE CLAIM, from any state
 pub record MarkedExactly : Type 0 where
@@ -153,3 +160,7 @@ pub record MarkedExactly : Type 0 where
   pub one-unmarked : replyAfter 9 29229 ≡ mark false
   pub one-missing : replyAfter 8 29226 ≡ mark false
   pub one-alike : replyAfter 9 32766 ≡ mark false
+  -- silence is not above the threshold, near, and its crest factors, which are equal, are no event, near with a margin of 5: a turn of one changes nothing, turns of both predict; with a margin of 500 the
+  -- second is not near
+  pub two-turns : replyToSilence (pos 5) ≡ mark true
+  pub one-turn-alone : replyToSilence (pos 500) ≡ mark false

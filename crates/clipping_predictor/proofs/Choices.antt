@@ -75,7 +75,7 @@ module _ {A : Type 0} (R : A → ℕ → Type 0) where
     chosen-spread xs =
         from-spread xs (λ (n : ℕ). n ≡ 0) (only 0) (record { drop-in = refl; low-in = refl; high-in = refl; low-le = λ v e. omega arith; le-high = λ v e. omega arith })
 
-  -- ---- THE LAW of the joined drops: "exactly those members of all sets that are at least the largest of the sets' smallest members"
+  -- ---- which drops can be joined to
 
   -- v is a member of one of the sets
   pub InOne : ℕ → List A → Type 0
@@ -123,7 +123,7 @@ module _ {A : Type 0} (R : A → ℕ → Type 0) where
       (λ k. chosen-first n v x xs (r .0 .0) (r .0 .1) (in-choice (max n (r .0 .0)) v xs (omega (arith, r .0 .2)) (inr k) (r .1))))
       m
 
-  pub chosen-law : (v : ℕ) (x : A) (xs : List A) → Chosen R (x ∷ xs) v ↔ (InOne v (x ∷ xs) × AllReach v (x ∷ xs))
+  chosen-law : (v : ℕ) (x : A) (xs : List A) → Chosen R (x ∷ xs) v ↔ (InOne v (x ∷ xs) × AllReach v (x ∷ xs))
   unfolding InOne AllReach
   chosen-law v x xs = (out, into)
     where
@@ -137,7 +137,7 @@ module _ {A : Type 0} (R : A → ℕ → Type 0) where
       into p = let c = in-choice 0 v (x ∷ xs) (omega arith) (inr (p .0)) (p .1) in record { first = 0; is-first = refl; drops = c .0; each = c .1; is = c .2 }
 
   -- each set reaches v exactly if v is at least the largest of their least members
-  pub all-reach : (f : A → Estimated) → ((x : A) → Spread (R x) (f x)) → (v : ℕ) (xs : List A) (e : Estimated) → (foldl joined e (map f xs) .low ≤ v) ↔ ((e .low ≤ v) × AllReach v xs)
+  all-reach : (f : A → Estimated) → ((x : A) → Spread (R x) (f x)) → (v : ℕ) (xs : List A) (e : Estimated) → (foldl joined e (map f xs) .low ≤ v) ↔ ((e .low ≤ v) × AllReach v xs)
   unfolding AllReach
   all-reach f spread v [] e = (λ h. (h, tt), λ p. p .0)
   all-reach f spread v (x ∷ xs) e =
@@ -145,3 +145,11 @@ module _ {A : Type 0} (R : A → ℕ → Type 0) where
         λ h. let p = below .0 h in (omega (arith, p .0), ((f x .low, spread x .low-in, omega (arith, p .0)), p .1)),
         λ p. below .1 (omega (arith, p .0, p .1 .0 .2, spread x .low-le (p .1 .0 .0) (p .1 .0 .1)), p .1 .1),
       )
+
+  -- THE LAW of the joined drops: exactly those members of all sets that are at least the largest of the sets' least members
+  pub joined-drops : (f : A → Estimated) → ((x : A) → Spread (R x) (f x)) → (v : ℕ) (x : A) (xs : List A)
+      → Chosen R (x ∷ xs) v ↔ (InOne v (x ∷ xs) × (foldl joined (only 0) (map f (x ∷ xs)) .low ≤ v))
+  joined-drops f spread v x xs =
+      let law = chosen-law v x xs in
+      let reach = all-reach f spread v (x ∷ xs) (only 0) in
+      (λ c. let r = law .0 c in (r .0, reach .1 (omega arith, r .1)), λ p. law .1 (p .0, reach .0 (p .1) .1))
