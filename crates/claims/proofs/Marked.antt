@@ -26,7 +26,7 @@ use Rattle.clipping_predictor_level_buffer.specs.Metrics.{metricsOver, partialM
 use Rattle.clipping_predictor_level_buffer.specs.Statistics.{sum, mean, largest}
 use Rattle.clipping_predictor.specs.declared.settings.Settings.{Settings}
 use Rattle.clipping_predictor.specs.declared.modes.Asked.{Asked}
-use Rattle.clipping_predictor.specs.Turned.{Each, only, estimated, isNear}
+use Rattle.clipping_predictor.specs.Turned.{Each, estimated, isNear}
 use Rattle.clipping_predictor.specs.Estimate.{dropBy, adaptiveDrop, estimateTree}
 use Rattle.clipping_predictor.specs.Predictor.{Predictor, pushEach, frameFits, enteredIf}
 use Rattle.clipping_predictor.specs.AllRings.{predictedBy}
@@ -49,7 +49,7 @@ use Rattle.input_volume_controller.specs.Recommendation.{recommendIf, unlessNon
 use Rattle.input_volume_controller.specs.Calls.{after, step, frame, recommendation}
 use Rattle.input_volume_controller.proofs.Marks.{is-mark, handled-marked}
 use Rattle.claims.specs.Past.{isNumber, isAccepted}
-use Rattle.claims.specs.Marked.{MayEstimate, EstimateMatters, frameWith, FrameMatters, replyAfter, replyToSilence, MarkedExactly}
+use Rattle.claims.specs.Marked.{MayEstimate, EstimateMatters, predictedAs, frameWith, FrameMatters, replyAfter, replyToSilence, MarkedExactly}
 use Rattle.claims.proofs.Lists.{and-l, and-r, is-true}
 use Rattle.claims.proofs.Runs.{number-is}
 use Rattle.claims.proofs.MayEstimate.{may-same}
@@ -83,7 +83,7 @@ record MarkedIf (s : Stepped) (May : List ℕ → Type 0) (other : List ℕ → 
 unmarked : (s : Stepped) (May : List ℕ → Type 0) (other : List ℕ → Stepped) → s .reply ≡ mark false → ((drops : List ℕ) → other drops .state ≡ s .state) → MarkedIf s May other
 unmarked s May other e f = record { near = false; is = e; changes = λ m. clash (is-mark true false (sym m ∙ e)); marked = λ drops m k. absurd (k (f drops)) }
 
-waiting-marked : (waits clipped : Bool) (c : Controller) → MarkedIf (unlessWaiting waits clipped c) (MayPredict (askedOf (c .control)) (c .predictor)) (λ (drops : List ℕ). unlessWaitingBy (λ a p. only (foldl max 0 drops)) waits clipped c)
+waiting-marked : (waits clipped : Bool) (c : Controller) → MarkedIf (unlessWaiting waits clipped c) (MayPredict (askedOf (c .control)) (c .predictor)) (λ (drops : List ℕ). unlessWaitingBy (predictedAs drops) waits clipped c)
 waiting-marked true clipped c = unmarked (unlessWaiting true clipped c) _ _ refl (λ drops. refl)
 waiting-marked false clipped c =
     let a = askedOf (c .control) in
@@ -103,7 +103,7 @@ waiting-marked false clipped c =
     }
 
 used-marked : (used : Bool) (samples : ℕ) (lent : List Float) (c : Controller)
-    → MarkedIf (ifUsed used samples lent c) (MayPredict (askedOf (c .control)) (enteredIf true samples lent (c .predictor))) (λ (drops : List ℕ). ifUsedBy (λ a p. only (foldl max 0 drops)) used samples lent c)
+    → MarkedIf (ifUsed used samples lent c) (MayPredict (askedOf (c .control)) (enteredIf true samples lent (c .predictor))) (λ (drops : List ℕ). ifUsedBy (predictedAs drops) used samples lent c)
 used-marked true samples lent c =
     waiting-marked (ltb (c .control .since) (c .control .settings .«clipped_wait»)) (lt (c .control .settings .«clipped_ratio») (clippedRatio (length (c .control .channels)) samples lent))
     (record { control = c .control; predictor = enteredIf true samples lent (c .predictor) })
@@ -114,10 +114,10 @@ module _ (applied samples : ℕ) (lent : List Float) (c : Controller) where
   May = MayPredict (askedOf (withAppliedInputVolume applied (c .control))) (enteredIf true samples lent (c .predictor))
 
   accepted-marked : (v : Natural) (fits : Bool) → v ≡ Number applied → fits ≡ true
-      → MarkedIf (unlessRefused v fits samples lent c) May (λ (drops : List ℕ). unlessRefusedBy (λ a p. only (foldl max 0 drops)) v fits samples lent c)
+      → MarkedIf (unlessRefused v fits samples lent c) May (λ (drops : List ℕ). unlessRefusedBy (predictedAs drops) v fits samples lent c)
   accepted-marked v fits e f =
-      subst (λ (v : Natural). MarkedIf (unlessRefused v fits samples lent c) May (λ (drops : List ℕ). unlessRefusedBy (λ a p. only (foldl max 0 drops)) v fits samples lent c)) (sym e)
-      (subst (λ (fits : Bool). MarkedIf (unlessRefused (Number applied) fits samples lent c) May (λ (drops : List ℕ). unlessRefusedBy (λ a p. only (foldl max 0 drops)) (Number applied) fits samples lent c)) (sym f)
+      subst (λ (v : Natural). MarkedIf (unlessRefused v fits samples lent c) May (λ (drops : List ℕ). unlessRefusedBy (predictedAs drops) v fits samples lent c)) (sym e)
+      (subst (λ (fits : Bool). MarkedIf (unlessRefused (Number applied) fits samples lent c) May (λ (drops : List ℕ). unlessRefusedBy (predictedAs drops) (Number applied) fits samples lent c)) (sym f)
       (used-marked (c .control .used) samples lent (withVolumeApplied applied c)))
 
   frame-marked : T (isAccepted (length (c .control .channels)) (pos applied) samples lent) → MarkedIf (step c (frame (pos applied) samples lent)) May (λ (drops : List ℕ). frameWith drops (pos applied) samples lent c)

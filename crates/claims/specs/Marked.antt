@@ -25,9 +25,10 @@ use Rattle.clipping_predictor.specs.declared.settings.ClippingPredictorMode.{Cl
 use Rattle.clipping_predictor.specs.declared.settings.ClippingPredictorMode.the-variants.{ClippingEventPrediction, AdaptiveStepClippingPeakPrediction, FixedStepClippingPeakPrediction}
 use Rattle.clipping_predictor.specs.declared.settings.Settings.{Settings}
 use Rattle.clipping_predictor.specs.declared.modes.Asked.{Asked}
+use Rattle.clipping_predictor.specs.declared.modes.Estimated.{Estimated}
 use Rattle.clipping_predictor.specs.Turned.{Each, only, estimated, isNear}
 use Rattle.clipping_predictor.specs.Estimate.{dropBy, adaptiveDrop, crestFactor, wholeDb, projectedPeak, capacityOf, estimateTree}
-use Rattle.clipping_predictor.specs.Predictor.{enteredIf}
+use Rattle.clipping_predictor.specs.Predictor.{Predictor, enteredIf}
 use Rattle.mono_input_volume_controller.specs.declared.speech_level.SpeechLevel.{SpeechLevel}
 use Rattle.mono_input_volume_controller.specs.Config.{defaults, settingsFrom}
 use Rattle.input_volume_controller.specs.ControlCalls.{withAppliedInputVolume}
@@ -118,9 +119,13 @@ EstimateMatters s records a drop = (other : ℕ) × MayEstimate s records a othe
 
 -- ---- frames
 
--- the frame's own definition, with these drops in place of the channels' estimates: "the largest predicted step"
+-- these drops in place of the channels' estimates: "the largest predicted step"
+abbrev pub predictedAs : List ℕ → Asked → Predictor → Estimated
+predictedAs drops a p = only (foldl max 0 drops)
+
+-- the frame's own definition, with them
 abbrev pub frameWith : List ℕ → ℤ → ℕ → List Float → Controller → Stepped
-frameWith drops = frameBy (λ a p. only (foldl max 0 drops))
+frameWith drops = frameBy (predictedAs drops)
 
 -- "putting a near comparison or ceiling on its other side, one or several at once, would change the frame's returned state": there are drops that the channels' estimates may have, once the volume is
 -- applied and the frame is in the rings, with which the frame returns another state
