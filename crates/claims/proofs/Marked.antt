@@ -95,7 +95,7 @@ waiting-marked false clipped c =
       changes = λ m.
           let k = exactly .0 m in
           let r = k .reached in
-          let joins : foldl max 0 (r .drops) ≡ k .other = ap (λ (n : ℕ). foldl max n (r .drops)) (sym (r .is-first)) ∙ r .is in
+          let joins : foldl max 0 (r .drops) ≡ k .other = ap (λ (n : ℕ). foldl max n (r .drops)) (r .is-first) ∙ r .is in
           (r .drops, each-as (λ records v t. may-same (p .settings) records a .to v t) (p .rings) (r .drops) (r .each), λ e. k .differs (ap (λ (n : ℕ). returnedBy clipped n c) (sym joins) ∙ e));
       marked = λ drops m k.
           exactly .1

@@ -1,21 +1,21 @@
 -- A frame with exact logarithms. What is exact are the logarithms: means and peaks are the rounded floats that the definition asks for, and a value at 1 or below counts as 1. Definitions only.
-use mathlib.Core.List.{List, map, foldl}
-use Prim.Native.Nat.{ℕ, max}
+use mathlib.Core.List.{List, map}
+use Prim.Native.Nat.{ℕ}
 use lib.IntN.{ℤ}
 use lib.Ieee.{Float}
 use Rattle.clipping_predictor_level_buffer.specs.declared.level.Level.{Level}
 use Rattle.clipping_predictor.specs.declared.modes.Asked.{Asked}
 use Rattle.clipping_predictor.specs.declared.modes.Estimated.{Estimated}
-use Rattle.clipping_predictor.specs.Turned.{only}
 use Rattle.clipping_predictor.specs.Predictor.{Predictor}
 use Rattle.input_volume_controller.specs.Controller.{Controller}
 use Rattle.input_volume_controller.specs.Reply.{Stepped}
 use Rattle.input_volume_controller.specs.Frame.{frameBy}
 use Rattle.claims.specs.Exact.{exactDrop}
+use Rattle.claims.specs.Marked.{predictedAs}
 
--- "the largest predicted step"; nothing is near, so no other can be reached
+-- each channel's exact drop; nothing is near, so no other can be reached
 unfoldable pub exactPredicted : Asked → Predictor → Estimated
-exactPredicted a p = only (foldl max 0 (map (λ (records : List Level). exactDrop (p .settings) records a) (p .rings)))
+exactPredicted a p = predictedAs (map (λ (records : List Level). exactDrop (p .settings) records a) (p .rings)) a p
 
 -- the frame's own definition, with these estimates
 unfoldable pub exactFrame : ℤ → ℕ → List Float → Controller → Stepped

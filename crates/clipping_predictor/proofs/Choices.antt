@@ -8,7 +8,7 @@ use native.Mathlib.Decide.{decLe}
 use Rattle.clipping_predictor.specs.declared.modes.Estimated.{Estimated}
 use Rattle.clipping_predictor.specs.Turned.{Each, only}
 use Rattle.clipping_predictor.specs.AllRings.{joined}
-use Rattle.clipping_predictor.proofs.Turns.{Spread, spread-as}
+use Rattle.clipping_predictor.proofs.Turns.{Spread, spread-as, one-spread}
 
 -- a choice for each of the channels xs, where R says what a channel can come to, and n before them, joins to v
 pub record ChosenFrom {A : Type 0} (P : ℕ → Type 0) (R : A → ℕ → Type 0) (xs : List A) (v : ℕ) : Type 0 where
@@ -19,9 +19,9 @@ pub record ChosenFrom {A : Type 0} (P : ℕ → Type 0) (R : A → ℕ → Type 
   pub is : foldl max first drops ≡ v
 
 abbrev pub Chosen : {A : Type 0} → (A → ℕ → Type 0) → List A → ℕ → Type 0
-Chosen R xs v = ChosenFrom (λ (n : ℕ). n ≡ 0) R xs v
+Chosen R xs v = ChosenFrom (λ (n : ℕ). 0 ≡ n) R xs v
 
-pub record Joined (P Q : ℕ → Type 0) (v : ℕ) : Type 0 where
+record Joined (P Q : ℕ → Type 0) (v : ℕ) : Type 0 where
   one : ℕ
   two : ℕ
   is-one : P one
@@ -72,8 +72,7 @@ module _ {A : Type 0} (R : A → ℕ → Type 0) where
 
     -- THE SPREAD of all channels
     pub chosen-spread : (xs : List A) → Spread (Chosen R xs) (foldl joined (only 0) (map f xs))
-    chosen-spread xs =
-        from-spread xs (λ (n : ℕ). n ≡ 0) (only 0) (record { drop-in = refl; low-in = refl; high-in = refl; low-le = λ v e. omega arith; le-high = λ v e. omega arith })
+    chosen-spread xs = from-spread xs (λ (n : ℕ). 0 ≡ n) (only 0) (one-spread 0)
 
   -- ---- which drops can be joined to
 
@@ -83,7 +82,7 @@ module _ {A : Type 0} (R : A → ℕ → Type 0) where
   InOne v (x ∷ xs) = R x v ⊎ InOne v xs
 
   -- each set has a member up to v
-  pub AllReach : ℕ → List A → Type 0
+  AllReach : ℕ → List A → Type 0
   AllReach v [] = Unit {0}
   AllReach v (x ∷ xs) = ((a : ℕ) × R x a × (a ≤ v)) × AllReach v xs
 

@@ -54,7 +54,7 @@ spread-as {e = e} f g s = record {
   le-high = λ v m. s .le-high v (g v m);
 }
 
-one-spread : (n : ℕ) → Spread (λ (v : ℕ). n ≡ v) (only n)
+pub one-spread : (n : ℕ) → Spread (λ (v : ℕ). n ≡ v) (only n)
 one-spread n = record { drop-in = refl; low-in = refl; high-in = refl; low-le = λ v e. omega arith; le-high = λ v e. omega arith }
 
 -- n is one of two numbers

@@ -32,10 +32,11 @@ crestFactor l = minus (d (l .max)) (h (l .average))
 
 -- ---- event
 
--- "none if d(M) - 90,310 ≤ threshold; event if (d(M)-h(A)) < (d(Mr)-h(Ar)) - margin"
+-- "event if (d(M)-h(A)) < (d(Mr)-h(Ar)) - margin"
 abbrev pub crestTree : ℤ → Level → Level → Asked → Tree ℕ
 crestTree margin window reference a = ifLess (crestFactor window) (minus (crestFactor reference) (Finite margin)) (leaf (dropBy a (a .step))) (leaf 0)
 
+-- "none if d(M) - 90,310 ≤ threshold"; what follows else
 abbrev pub eventTree : ℤ → ℤ → Level → Level → Asked → Tree ℕ
 eventTree threshold margin window reference a = ifAtMost (dbfs (window .max)) (Finite threshold) (leaf 0) (crestTree margin window reference a)
 
@@ -49,10 +50,11 @@ wholeDb threshold = quotZ threshold (pos 1000) *ℤ pos 1000
 abbrev pub projectedPeak : Level → Level → Decibels
 projectedPeak window reference = plus (plus (crestFactor reference) (h (window .average))) minLevelDbfs
 
--- "None if d(M) - 90,310 ≤ it. P .. must be above it." What follows then is `above`.
+-- "P .. must be above it", the threshold in whole dB. What follows then is `above`.
 abbrev pub projectedTree : ℤ → Decibels → Tree ℕ → Tree ℕ
 projectedTree edge projected above = ifLess (Finite edge) projected above (leaf 0)
 
+-- "None if d(M) - 90,310 ≤ it"; what follows else
 abbrev pub peakTree : ℤ → Level → Level → Tree ℕ → Tree ℕ
 peakTree threshold window reference above =
     ifAtMost (dbfs (window .max)) (Finite (wholeDb threshold)) (leaf 0) (projectedTree (wholeDb threshold) (projectedPeak window reference) above)

@@ -40,6 +40,7 @@ tested false false held failed = failed
 tested true true held failed = beside held failed
 tested false true held failed = beside failed held
 
+-- what all tests of a tree lead to
 unfoldable pub estimated : Tree ℕ → Estimated
 estimated (leaf n) = only n
 estimated (test outcome near held failed) = tested outcome near (estimated held) (estimated failed)

@@ -2,7 +2,7 @@
 use mathlib.Core.Path.{_≡_, refl, sym, ap, ap₂, _∙_}
 use mathlib.Core.Logic.{_↔_}
 use mathlib.Core.Bool.{Bool, true, false, not, _||_}
-use mathlib.Core.List.{List, [], _∷_, map, foldl}
+use mathlib.Core.List.{List, [], _∷_}
 use Prim.Native.Nat.{ℕ, _≤_, _<_, max}
 use native.Mathlib.Omega.{arith}
 use lib.Dec.{ltb}
@@ -11,13 +11,13 @@ use Rattle.numbers.proofs.Signs.{clash}
 use Rattle.clipping_predictor_level_buffer.specs.declared.level.Level.{Level}
 use Rattle.clipping_predictor.specs.declared.modes.Asked.{Asked}
 use Rattle.clipping_predictor.specs.declared.modes.Estimated.{Estimated}
-use Rattle.clipping_predictor.specs.Turned.{Turned, only, estimated}
+use Rattle.clipping_predictor.specs.Turned.{Turned, estimated}
 use Rattle.clipping_predictor.specs.Estimate.{estimateTree}
 use Rattle.clipping_predictor.specs.Predictor.{Predictor, emptied}
-use Rattle.clipping_predictor.specs.AllRings.{joined, predictedBy}
+use Rattle.clipping_predictor.specs.AllRings.{predictedBy}
 use Rattle.clipping_predictor.proofs.Turns.{Spread, turned-spread}
 use Rattle.clipping_predictor.proofs.Choices.{Chosen, chosen-spread}
-use Rattle.clipping_predictor.proofs.Windows.{none-stored-none}
+use Rattle.clipping_predictor.proofs.Joins.{none-from-empty}
 use Rattle.mono_input_volume_controller.specs.declared.mono.MonoInputVolumeController.{MonoInputVolumeController}
 use Rattle.mono_input_volume_controller.specs.Mono.{handledClipping}
 use Rattle.mono_input_volume_controller.specs.SameVolumes.{sameVolumes}
@@ -173,18 +173,9 @@ unfolding predictedBy estimated
 predicted-spread a p = chosen-spread (λ (records : List Level). Turned (estimateTree (p .settings) records a)) (λ (records : List Level). estimated (estimateTree (p .settings) records a)) (λ records. turned-spread (estimateTree (p .settings) records a)) (p .rings)
 
 -- rings that led to a drop are not empty
-none-joined : (s : List Level → Estimated) (rings : List (List Level)) → s [] ≡ only 0 → map (λ (r : List Level). []) rings ≡ rings → foldl joined (only 0) (map s rings) ≡ only 0
-none-joined s [] z e = refl
-none-joined s (r ∷ rings) z e =
-    let p : [] ≡ r = cc in
-    let q : map (λ (r : List Level). []) rings ≡ rings = cc in
-    ap (λ (t : Estimated). foldl joined (joined (only 0) t) (map s rings)) (ap s (sym p) ∙ z) ∙ none-joined s rings z q
-
 drop-from-records : (a : Asked) (p : Predictor) → 0 < predictedBy a p .high → emptied p ≡ p → ⊥
-unfolding predictedBy estimated
-drop-from-records a p k e =
-    let z = none-joined (λ (records : List Level). estimated (estimateTree (p .settings) records a)) (p .rings) (ap estimated (none-stored-none (p .settings) a)) (ap (λ (q : Predictor). q .rings) e) in
-    omega (arith, ap (λ (s : Estimated). s .high) z)
+unfolding estimated
+drop-from-records a p k e = omega (arith, ap (λ (s : Estimated). s .high) (none-from-empty a p e))
 
 pub is-mark : (a b : Bool) → mark a ≡ mark b → a ≡ b
 is-mark a b e = cc

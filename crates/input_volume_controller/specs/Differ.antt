@@ -22,6 +22,7 @@ unfoldable pub lowerDifferently : ℕ → ℕ → List MonoInputVolumeController
 unfolding otherVolumes
 lowerDifferently step other ms = otherVolumes (eachCalled (Clipping step) ms) (eachCalled (Clipping other) ms)
 
+-- by whether each of two drops lowers the channels, and whether they lower them differently
 abbrev pub differIf : Bool → Bool → Bool → Bool
 differIf true true differently = differently
 differIf true false differently = true
