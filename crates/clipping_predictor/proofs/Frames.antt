@@ -1,4 +1,4 @@
--- Frames and rings: the parts of a frame, and what pushing or emptying every channel's ring does to the lists that they store. Assumes nothing.
+-- Frames and rings: the parts of a frame, and what pushing a level to every channel's ring or emptying it does to the lists that they store. Assumes nothing.
 use mathlib.Core.Path.{_≡_, refl, sym, ap, subst, _∙_}
 use mathlib.Core.Bool.{Bool, true, false, _&&_}
 use mathlib.Core.List.{List, [], _∷_}
@@ -8,36 +8,23 @@ use native.Mathlib.Omega.{arith}
 use lib.Dec.{leb, eqb}
 use lib.Ieee.{Float}
 use lib.ListN.{length, getD, replicate, getD-replicate, length-replicate}
-use borrow.Author.Tests.{le-leb, leb-true, eqb-true}
+use borrow.Author.Tests.{leb-true, eqb-true}
 use Rattle.numbers.specs.Listed.{listed}
 use Rattle.numbers.proofs.Listed.{length-listed, getD-listed, listed-same, map-listed, listed-constant}
 use Rattle.numbers.proofs.Arrays.{Replaced}
 use Rattle.numbers.proofs.Signs.{clash}
-use Rattle.numbers.specs.declared.refusal.Refusal.{Refusal}
 use Rattle.clipping_predictor_level_buffer.specs.declared.level.Level.{Level}
-use Rattle.clipping_predictor_level_buffer.specs.declared.level.Measured.{Measured}
-use Rattle.clipping_predictor_level_buffer.specs.declared.level.Measured.the-variants as Measured
 use Rattle.clipping_predictor_level_buffer.specs.declared.ClippingPredictorLevelBuffer.{ClippingPredictorLevelBuffer}
-use Rattle.clipping_predictor_level_buffer.specs.Level.{maxSamplesPerChannel, frameRecord, measureOf}
-use Rattle.clipping_predictor_level_buffer.specs.Ring.{stored, push, Pushed, Emptied}
+use Rattle.clipping_predictor_level_buffer.specs.Level.{maxSamplesPerChannel, frameRecord}
+use Rattle.clipping_predictor_level_buffer.specs.Ring.{noLevel, stored, push, Pushed, Emptied}
 use Rattle.clipping_predictor.specs.declared.settings.Settings.{Settings}
 use Rattle.clipping_predictor.specs.declared.ClippingPredictor.{ClippingPredictor}
 use Rattle.clipping_predictor.specs.Settings as Settings
 use Rattle.clipping_predictor.specs.Estimate.{capacityIf, capacityOf}
 use Rattle.clipping_predictor.specs.GoodFor.{GoodFor}
-use Rattle.clipping_predictor.specs.Predictor.{maxChannels, noRing, ringAt, viewOf, Good, Fresh, partOf, levelsOf, pushEach, frameFits, enteredIf, Entered, ResetOf}
+use Rattle.clipping_predictor.specs.Predictor.{Predictor, maxChannels, noRing, ringAt, viewOf, Good, Fresh, partOf, pushEach, frameFits, withLevels, enteredIf, Entered, ResetOf}
 
 -- ---- a frame that fits
-
-pub measured : (samples : List Float) → 1 ≤ length samples → length samples ≤ maxSamplesPerChannel → measureOf samples ≡ Measured.Level (frameRecord samples)
-unfolding measureOf
-measured samples h k = rw (le-leb 1 (length samples) h, le-leb (length samples) maxSamplesPerChannel k)
-
-pub is-level : (samples : List Float) (l : Level) → 1 ≤ length samples → length samples ≤ maxSamplesPerChannel → measureOf samples ≡ Measured.Level l → l ≡ frameRecord samples
-is-level samples l h k e = let m = measured samples h k in cc
-
-pub not-refused : (samples : List Float) (cause : Refusal) → 1 ≤ length samples → length samples ≤ maxSamplesPerChannel → measureOf samples ≡ Measured.Refused cause → ⊥
-not-refused samples cause h k e = let m = measured samples h k in let z : _≡_ {A = ℕ} 0 1 = cc in omega arith
 
 pub record Fits (channels samples : ℕ) (frame : List Float) : Type 0 where
   pub least : 1 ≤ samples
@@ -89,8 +76,8 @@ pub record Kept (p r : ClippingPredictor) : Type 0 where
   pub settings : r .settings ≡ p .settings
   pub channels : r .channels ≡ p .channels
 
-abbrev pub PushedAt : ℕ → List Float → ℕ → ClippingPredictorLevelBuffer → ClippingPredictorLevelBuffer → Type 0
-PushedAt samples frame c old new = Pushed old (frameRecord (partOf samples frame c)) new
+abbrev pub PushedAt : List Level → ℕ → ClippingPredictorLevelBuffer → ClippingPredictorLevelBuffer → Type 0
+PushedAt items c old new = Pushed old (getD items c noLevel) new
 
 abbrev pub EmptiedAt : ℕ → ClippingPredictorLevelBuffer → ClippingPredictorLevelBuffer → Type 0
 EmptiedAt c old new = Emptied (old .capacity) new
@@ -103,23 +90,30 @@ module _ (s : Settings) (old new : ClippingPredictorLevelBuffer) (level : Level)
   pub pushed-stored : stored new ≡ push (capacityOf s) level (stored old)
   pushed-stored = pushed .stored-is ∙ ap (λ (n : ℕ). push n level (stored old)) (good .capacity ∙ ap (λ (b : Bool). capacityIf b (s .delay + s .reference)) (sym on))
 
--- the rings that a frame has entered
-entered-rings : (p : ClippingPredictor) (samples : ℕ) (frame : List Float)
-    → enteredIf true samples frame (viewOf p) .rings ≡ listed (λ c. push (capacityOf (p .settings)) (frameRecord (partOf samples frame c)) (stored (ringAt p c))) (p .channels)
-unfolding viewOf
-entered-rings p samples frame =
-    ap (λ (n : ℕ). pushEach (capacityOf (p .settings)) (levelsOf n samples frame) (listed (λ c. stored (ringAt p c)) (p .channels))) (length-listed (λ c. stored (ringAt p c)) (p .channels))
-    ∙ push-listed (capacityOf (p .settings)) (λ c. frameRecord (partOf samples frame c)) (λ c. stored (ringAt p c)) (p .channels)
+-- the rings that levels have entered, one for each channel
+module _ (p : ClippingPredictor) where
+  abbrev pub entering : (ℕ → Level) → Predictor
+  entering f = withLevels (listed f (p .channels)) (viewOf p)
 
-pub entered-length : (p : ClippingPredictor) (samples : ℕ) (frame : List Float) → length (enteredIf true samples frame (viewOf p) .rings) ≡ p .channels
-entered-length p samples frame = ap length (entered-rings p samples frame) ∙ length-listed _ (p .channels)
+  entered-rings : (f : ℕ → Level) → entering f .rings ≡ listed (λ c. push (capacityOf (p .settings)) (f c) (stored (ringAt p c))) (p .channels)
+  unfolding viewOf
+  entered-rings f = push-listed (capacityOf (p .settings)) f (λ c. stored (ringAt p c)) (p .channels)
 
-pub entered-at : (p : ClippingPredictor) (samples : ℕ) (frame : List Float) (c : ℕ) (new : ClippingPredictorLevelBuffer) → Good p → p .settings .enabled ≡ true → c < p .channels
-    → PushedAt samples frame c (ringAt p c) new → stored new ≡ getD (enteredIf true samples frame (viewOf p) .rings) c none
-entered-at p samples frame c new good on h pushed =
-    pushed-stored (p .settings) (ringAt p c) new (frameRecord (partOf samples frame c)) on (good .each c h) pushed
-    ∙ sym (ap (λ (l : List (List Level)). getD l c none) (entered-rings p samples frame)
-    ∙ getD-listed (λ i. push (capacityOf (p .settings)) (frameRecord (partOf samples frame i)) (stored (ringAt p i))) (p .channels) c none h)
+  pub entered-length : (f : ℕ → Level) → length (entering f .rings) ≡ p .channels
+  entered-length f = ap length (entered-rings f) ∙ length-listed _ (p .channels)
+
+  pub entered-at : (f : ℕ → Level) (c : ℕ) (new : ClippingPredictorLevelBuffer) → Good p → p .settings .enabled ≡ true → c < p .channels → Pushed (ringAt p c) (f c) new → stored new ≡ getD (entering f .rings) c none
+  entered-at f c new good on k pushed =
+      pushed-stored (p .settings) (ringAt p c) new (f c) on (good .each c k) pushed
+      ∙ sym (ap (λ (l : List (List Level)). getD l c none) (entered-rings f)
+      ∙ getD-listed (λ i. push (capacityOf (p .settings)) (f i) (stored (ringAt p i))) (p .channels) c none k)
+
+  -- a frame's levels are those of its channels' parts
+  pub entered-frame : (f : ℕ → Level) (samples : ℕ) (frame : List Float) → ((c : ℕ) → c < p .channels → f c ≡ frameRecord (partOf samples frame c)) → entering f ≡ enteredIf true samples frame (viewOf p)
+  unfolding viewOf
+  entered-frame f samples frame same =
+      let records : ℕ → Level = λ c. frameRecord (partOf samples frame c) in
+      ap (λ (l : List Level). withLevels l (viewOf p)) (listed-same f records (p .channels) same ∙ ap (listed records) (sym (length-listed (λ c. stored (ringAt p c)) (p .channels))))
 
 module _ (p r : ClippingPredictor) (good : Good p) (kept : Kept p r) where
   view-of : (f : ℕ → List Level) → ((c : ℕ) → c < p .channels → stored (ringAt r c) ≡ f c) → viewOf r ≡ record { settings = p .settings; rings = listed f (p .channels) }
@@ -138,15 +132,16 @@ module _ (p r : ClippingPredictor) (good : Good p) (kept : Kept p r) where
     each = λ c k. rw (kept .settings) (h c (omega (arith, kept .channels)));
   }
 
-  pub all-pushed : (samples : ℕ) (frame : List Float) → p .settings .enabled ≡ true → Replaced noRing (PushedAt samples frame) (p .channels) (p .rings) (r .rings) → Entered p samples frame r
+  pub all-pushed : (items : List Level) → p .settings .enabled ≡ true → Replaced noRing (PushedAt items) (p .channels) (p .rings) (r .rings) → Entered p items r
   unfolding viewOf
-  all-pushed samples frame on done = record {
-    good = good-of (done .same-length) (λ c h. pushed-good (p .settings) (ringAt p c) (ringAt r c) (frameRecord (partOf samples frame c)) on (good .each c h) (done .done c h));
-    settings = kept .settings;
-    view =
-        view-of (λ c. push (capacityOf (p .settings)) (frameRecord (partOf samples frame c)) (stored (ringAt p c))) (λ c h. pushed-stored (p .settings) (ringAt p c) (ringAt r c) (frameRecord (partOf samples frame c)) on (good .each c h) (done .done c h))
-        ∙ (λ i. record { settings = p .settings; rings = sym (entered-rings p samples frame) i });
-  }
+  all-pushed items on done =
+      let f : ℕ → Level = λ c. getD items c noLevel in
+      record {
+        good = good-of (done .same-length) (λ c h. pushed-good (p .settings) (ringAt p c) (ringAt r c) (f c) on (good .each c h) (done .done c h));
+        view =
+            view-of (λ c. push (capacityOf (p .settings)) (f c) (stored (ringAt p c))) (λ c h. pushed-stored (p .settings) (ringAt p c) (ringAt r c) (f c) on (good .each c h) (done .done c h))
+            ∙ (λ i. record { settings = p .settings; rings = sym (entered-rings p f) i });
+      }
 
   pub all-emptied : Replaced noRing EmptiedAt (p .channels) (p .rings) (r .rings) → ResetOf p r
   unfolding viewOf
@@ -175,16 +170,15 @@ made-fresh channels s ring good low high e =
       view = λ i. record { settings = s; rings = (listed-same _ (λ c. none) channels (λ c h. ap stored (at c h) ∙ e .stored-is) ∙ listed-constant none channels) i };
     }
 
--- ---- a predictor that is off: frames do not change it
+-- ---- a predictor that is off: levels do not change it
 
-pub off-same : (p : ClippingPredictor) (samples : ℕ) (frame : List Float) → Good p → p .settings .enabled ≡ false → viewOf p ≡ enteredIf true samples frame (viewOf p)
+pub off-same : (p : ClippingPredictor) (f : ℕ → Level) → Good p → p .settings .enabled ≡ false → viewOf p ≡ entering p f
 unfolding viewOf
-off-same p samples frame good e =
-    let f : ℕ → Level = λ c. frameRecord (partOf samples frame c) in
+off-same p f good e =
     let g : ℕ → List Level = λ c. stored (ringAt p c) in
     let none-kept : (c : ℕ) → push (capacityOf (p .settings)) (f c) (g c) ≡ none = λ c. ap (λ (b : Bool). push (capacityIf b (p .settings .delay + p .settings .reference)) (f c) (g c)) e in
     λ i. record {
       settings = p .settings;
       rings = (listed-same g (λ c. push (capacityOf (p .settings)) (f c) (g c)) (p .channels) (λ c h. good .each c h .off e ∙ sym (none-kept c))
-          ∙ sym (entered-rings p samples frame)) i;
+          ∙ sym (entered-rings p f)) i;
     }

@@ -5,6 +5,7 @@ pub mod Signed
 pub mod Windows
 pub mod Given
 pub mod Frames
+pub mod FrameLevels
 pub mod Joins
 pub mod Rings
 pub mod Drops

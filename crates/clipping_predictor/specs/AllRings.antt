@@ -41,11 +41,18 @@ abbrev pub predictedIf : Bool → Question → Predictor → Estimated
 predictedIf true question p = predictedFor question p
 predictedIf false question p = noEstimate
 
--- what the loop over the channels says of a predictor that is on
-pub record EnteredOf (p : ClippingPredictor) (samples : ℕ) (frame : List Float) (question : Question) (r : Heard) : Type 0 where
-  pub entered : Entered p samples frame (r .predictor)
+-- how many rings a frame enters
+abbrev pub hearing : Bool → ℕ → ℕ
+hearing true channels = channels
+hearing false channels = 0
+
+-- levels enter the rings, which are asked then; a predictor that is off is handed back
+pub record HeardLevelsOf (p : ClippingPredictor) (levels : List Level) (question : Question) (r : Heard) : Type 0 where
+  pub entered : Entered p levels (r .predictor)
+  pub same : p .settings .enabled ≡ false → r .predictor ≡ p
   pub answer : r .estimated ≡ predictedFor question (viewOf (r .predictor))
 
+-- a frame that fits is measured, and its levels enter the rings
 pub record HeardOf (p : ClippingPredictor) (samples : ℕ) (frame : List Float) (question : Question) (r : Heard) : Type 0 where
   pub entered : WithFrame p samples frame (r .predictor)
   pub answer : r .estimated ≡ predictedIf (frameFits (p .channels) samples frame) question (viewOf (r .predictor))

@@ -4,5 +4,6 @@ pub mod Settings
 pub mod Estimate
 pub mod GoodFor
 pub mod Predictor
+pub mod FrameLevels
 pub mod EstimateCall
 pub mod AllRings

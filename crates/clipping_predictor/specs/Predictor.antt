@@ -19,7 +19,7 @@ use Rattle.numbers.specs.Said.{outcomeSays}
 use Rattle.clipping_predictor_level_buffer.specs.declared.level.Level.{Level}
 use Rattle.clipping_predictor_level_buffer.specs.declared.ClippingPredictorLevelBuffer.{ClippingPredictorLevelBuffer}
 use Rattle.clipping_predictor_level_buffer.specs.Level.{maxSamplesPerChannel, frameRecord}
-use Rattle.clipping_predictor_level_buffer.specs.Ring.{stored, push}
+use Rattle.clipping_predictor_level_buffer.specs.Ring.{noLevel, stored, push}
 use Rattle.clipping_predictor.specs.declared.settings.ClippingPredictorMode.the-variants.{AdaptiveStepClippingPeakPrediction}
 use Rattle.clipping_predictor.specs.declared.settings.ClippingPredictorConfig.{ClippingPredictorConfig}
 use Rattle.clipping_predictor.specs.declared.settings.Settings.{Settings}
@@ -129,15 +129,21 @@ abbrev pub outcomeIf : Bool → Outcome
 outcomeIf true = Accepted
 outcomeIf false = Refused FrameSize
 
+abbrev pub withLevels : List Level → Predictor → Predictor
+withLevels levels p = record { settings = p .settings; rings = pushEach (capacityOf (p .settings)) levels (p .rings) }
+
 abbrev pub enteredIf : Bool → ℕ → List Float → Predictor → Predictor
-enteredIf true samples frame p = record { settings = p .settings; rings = pushEach (capacityOf (p .settings)) (levelsOf (length (p .rings)) samples frame) (p .rings) }
+enteredIf true samples frame p = withLevels (levelsOf (length (p .rings)) samples frame) p
 enteredIf false samples frame p = p
 
--- what the loop over the channels says of a predictor that is on
-pub record Entered (p : ClippingPredictor) (samples : ℕ) (frame : List Float) (r : ClippingPredictor) : Type 0 where
+-- the levels in the channels' places of an array
+abbrev pub levelsIn : List Level → ℕ → List Level
+levelsIn items channels = listed (λ c. getD items c noLevel) channels
+
+-- they have entered the rings
+pub record Entered (p : ClippingPredictor) (items : List Level) (r : ClippingPredictor) : Type 0 where
   pub good : Good r
-  pub settings : r .settings ≡ p .settings
-  pub view : viewOf r ≡ enteredIf true samples frame (viewOf p)
+  pub view : viewOf r ≡ withLevels (levelsIn items (p .channels)) (viewOf p)
 
 -- a frame that does not fit hands the very predictor back
 pub record WithFrame (p : ClippingPredictor) (samples : ℕ) (frame : List Float) (r : ClippingPredictor) : Type 0 where

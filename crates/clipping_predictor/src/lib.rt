@@ -1,16 +1,13 @@
 // Frame-wise clipping prediction and clipped level step estimation. Ports clipping_predictor.rs: `Box<dyn ClippingPredictor>` is a mode beside the state,
 // and `&mut self` a predictor by value that is handed back.
 ghost use mathlib.Core.Path.{_≡_};
-ghost use mathlib.Core.Bool.{true};
 ghost use Prim.Native.Nat.{_*_, _≤_};
-ghost use lib.ListN.{length};
-ghost use Rattle.clipping_predictor_level_buffer.specs.Level.{maxSamplesPerChannel, frameRecord};
-ghost use Rattle.clipping_predictor_level_buffer.specs.Ring.{Pushed};
-ghost use Rattle.clipping_predictor_level_buffer.specs.Ring.{Good as GoodRing};
 ghost use Rattle.clipping_predictor.specs.Settings.{Good as GoodSettings};
-ghost use Rattle.clipping_predictor.specs.AllRings.{EnteredOf, HeardOf};
+ghost use Rattle.clipping_predictor.specs.AllRings.{hearing, HeardOf, HeardLevelsOf};
 ghost use Rattle.clipping_predictor.specs.Predictor.{maxChannels, Good, viewOf, Fresh, CreatedOf, frameFits, outcomeIf, AnalyzedOf, ResetOf};
 ghost use Rattle.clipping_predictor.specs.EstimateCall.{argumentsOf, dropOr, estimateSays, estimateOf};
+use crate::measuring::Levels;
+use crate::measuring::measure_channels;
 pub use crate::modes::Asked;
 pub use crate::modes::Estimated;
 pub use crate::modes::Question;
@@ -20,12 +17,12 @@ use crate::settings::ClippingPredictorConfig;
 use crate::settings::Settings;
 use clipping_predictor_level_buffer::ClippingPredictorLevelBuffer;
 use clipping_predictor_level_buffer::level::MAX_SAMPLES_PER_CHANNEL;
-use clipping_predictor_level_buffer::level::Measured;
 use numbers::natural::Natural;
 use numbers::refusal::Outcome;
 use numbers::refusal::Refusal;
 
 mod making;
+pub mod measuring;
 mod modes;
 pub mod settings;
 
@@ -53,8 +50,8 @@ pub struct Analyzed {
 
 // The predictor after a frame, and what its rings answer then.
 pub struct Heard {
-    pub estimated: Estimated,
     pub predictor: ClippingPredictor,
+    pub estimated: Estimated,
 }
 
 // What an estimate is asked with, in range, or why it is refused.
@@ -98,18 +95,6 @@ pub fn create_clipping_predictor(num_channels: i32, config: ClippingPredictorCon
     }
 }
 
-// A channel's level enters its ring.
-fn pushed(ring: ClippingPredictorLevelBuffer, part: &[f32]) -> ClippingPredictorLevelBuffer
-    requires { ⌜ GoodRing ring × (1 ≤ length (now part)) × (length (now part) ≤ maxSamplesPerChannel) ⌝ }
-    ensures { λ r. ⌜ Pushed ring (frameRecord (now (part .entry))) r ⌝ }
-{
-    let measured = clipping_predictor_level_buffer::level::measure(part);
-    match measured {
-        Measured::Level(level) => ring.push(level),
-        Measured::Refused(_) => ring,
-    }
-}
-
 // A byte as the answer's number.
 fn answer_of(drop: u8, near: bool) -> Estimate
     ensures { λ r. ⌜ r ≡ dropOr drop near ⌝ }
@@ -131,6 +116,13 @@ pub fn frame_fits(channels: u8, samples: usize, frame: &[f32]) -> bool
         return false;
     }
     frame.len() == (channels as usize) * samples
+}
+
+// How many rings a frame enters: none of a predictor that is off.
+fn hearing(on: bool, channels: usize) -> usize
+    ensures { λ r. ⌜ r ≡ hearing on channels ⌝ }
+{
+    if on { channels } else { 0 }
 }
 
 fn outcome_of(fits: bool) -> Outcome
@@ -192,29 +184,6 @@ fn arguments_in_range(
 }
 
 impl ClippingPredictor {
-    // Each channel's level enters its ring, and the ring is asked.
-    fn entered(self, samples: usize, frame: &[f32], question: Question) -> Heard
-        requires { ⌜ Good self × (self .settings .enabled ≡ true) × (frameFits (self .channels) samples (now frame) ≡ true) ⌝ }
-        ensures { λ r. ⌜ EnteredOf self samples (now (frame .entry)) question r ⌝ }
-    {
-        let channels = self.channels;
-        let settings = self.settings;
-        let mut p = self;
-        let mut e = modes::no_estimate();
-        for c in 0..channels {
-            let start = c * samples;
-            let end = start + samples;
-            let old = p.rings[c];
-            let ring = pushed(old, &frame[start..end]);
-            p.rings[c] = ring;
-            e = joined(e, answered(settings, ring, question));
-        }
-        Heard {
-            estimated: e,
-            predictor: p,
-        }
-    }
-
     // The predictor after a frame of all channels, one after another, and what its rings then answer. A frame that does not fit, or that comes to a predictor which is off, changes nothing.
     pub fn heard(self, samples_per_channel: usize, frame: &[f32], question: Question) -> Heard
         requires { ⌜ Good self ⌝ }
@@ -222,17 +191,41 @@ impl ClippingPredictor {
     {
         if !frame_fits(self.channels as u8, samples_per_channel, frame) {
             return Heard {
-                estimated: modes::no_estimate(),
                 predictor: self,
+                estimated: modes::no_estimate(),
             };
         }
         if !self.settings.enabled {
             return Heard {
-                estimated: modes::no_estimate(),
                 predictor: self,
+                estimated: modes::no_estimate(),
             };
         }
-        self.entered(samples_per_channel, frame, question)
+        let measured = measure_channels(self.channels, samples_per_channel, frame);
+        let levels = measured.levels;
+        self.heard_levels(levels, question)
+    }
+
+    // The same of a frame whose levels are measured. They enter the rings of a predictor that is on, and each ring is asked from its place in the array, of which no copy is made then.
+    pub fn heard_levels(self, levels: Levels, question: Question) -> Heard
+        requires { ⌜ Good self ⌝ }
+        ensures { λ r. ⌜ HeardLevelsOf self (levels .items) question r ⌝ }
+    {
+        let settings = self.settings;
+        let channels = hearing(settings.enabled, self.channels);
+        let mut p = self;
+        let mut e = modes::no_estimate();
+        for c in 0..channels {
+            let level = levels.items[c];
+            let old = p.rings[c];
+            p.rings[c] = old.push(level);
+            let ring = p.rings[c];
+            e = joined(e, answered(settings, ring, question));
+        }
+        Heard {
+            predictor: p,
+            estimated: e,
+        }
     }
 
     // The same with nothing asked but whether the frame fits.

@@ -13,14 +13,9 @@ use lib.ListN.{getD}
 use Rattle.levels.specs.FloatParts.{magnitudeOf, magnitudeBitsOf}
 use Rattle.levels.proofs.BitOrder.{infinityBits, bit-order, bits-of-magnitude, bits-within}
 use Rattle.clipping_predictor_level_buffer.specs.Statistics.{plusZero, secondIf, larger, largest}
-use Rattle.clipping_predictor_level_buffer.specs.Running.{peakBits}
+use Rattle.clipping_predictor_level_buffer.specs.Running.{peakBits, Stands, withSample}
 
--- p stands for the float x, which is not negative
-pub record Stands (p : ℕ) (x : Float) : Type 0 where
-  pub is : ofBits binary32 p ≡ x
-  pub within : p ≤ infinityBits
-
-larger-stands : (p q : ℕ) (x y : Float) → Stands p x → Stands q y → Stands (max p q) (larger x y)
+pub larger-stands : (p q : ℕ) (x y : Float) → Stands p x → Stands q y → Stands (max p q) (larger x y)
 larger-stands p q x y s t =
     let order : lt x y ≡ lt (ofBits binary32 p) (ofBits binary32 q) = λ i. lt (sym (s .is) i) (sym (t .is) i) in
     elim (decLt p q) [
@@ -53,3 +48,20 @@ all (y ∷ xs) f p x s = all xs (λ i. f (suc i)) (max p (magnitudeBitsOf y)) (l
 pub peak-stands : (xs : List Float) → ((i : ℕ) → T (fits binary32 (getD xs i nan))) → Stands (peakBits xs) (largest (map magnitudeOf xs))
 unfolding peakBits largest ofBits
 peak-stands xs f = all xs f 0 plusZero (record { is = refl; within = omega arith })
+
+-- a sample's own bits stand for what a peak is compared with
+of-sample : (y : Float) → T (fits binary32 y) → Stands (magnitudeBitsOf y) (ofBits binary32 (magnitudeBitsOf y))
+unfolding isNan magnitudeBitsOf
+of-sample nan f = record { is = refl; within = omega arith }
+of-sample (inf s) f = record { is = refl; within = bits-within (inf s) f refl }
+of-sample (fin s m e) f = record { is = refl; within = bits-within (fin s m e) f refl }
+
+pub sample-within : (y : Float) → T (fits binary32 y) → magnitudeBitsOf y ≤ infinityBits
+sample-within y f = of-sample y f .within
+
+pub with-sample : (p : ℕ) (x y : Float) → T (fits binary32 y) → Stands p x → Stands (max p (magnitudeBitsOf y)) (withSample x y)
+with-sample p x y f s = larger-stands p (magnitudeBitsOf y) x (ofBits binary32 (magnitudeBitsOf y)) s (of-sample y f)
+
+pub zero-stands : Stands 0 plusZero
+unfolding ofBits
+zero-stands = record { is = refl; within = omega arith }

@@ -1,15 +1,17 @@
--- What a measurement, metrics and a stored record say fixes their answers. Assumes nothing.
+-- What a measurement of one channel or two, metrics and a stored record say fixes their answers. Assumes nothing.
 use mathlib.Core.Path.{_≡_, refl, ap}
 use mathlib.Core.Option.{Option, none, some}
 use Rattle.numbers.proofs.Said.{fixed, cause-back, answerOf}
 use Rattle.clipping_predictor_level_buffer.specs.declared.level.Level.{Level}
 use Rattle.clipping_predictor_level_buffer.specs.declared.level.Measured.{Measured}
 use Rattle.clipping_predictor_level_buffer.specs.declared.level.Measured.the-variants as Measured
+use Rattle.clipping_predictor_level_buffer.specs.declared.level.MeasuredTwo.{MeasuredTwo}
+use Rattle.clipping_predictor_level_buffer.specs.declared.level.MeasuredTwo.the-variants as MeasuredTwo
 use Rattle.clipping_predictor_level_buffer.specs.declared.Metrics.{Metrics}
 use Rattle.clipping_predictor_level_buffer.specs.declared.Metrics.the-variants.{Refused, Missing, Found}
 use Rattle.clipping_predictor_level_buffer.specs.declared.Stored.{Stored}
 use Rattle.clipping_predictor_level_buffer.specs.declared.Stored.the-variants as Stored
-use Rattle.clipping_predictor_level_buffer.specs.Level.{measuredSays}
+use Rattle.clipping_predictor_level_buffer.specs.Level.{measuredSays, measuredTwoSays}
 use Rattle.clipping_predictor_level_buffer.specs.Ring.{storedSays}
 use Rattle.clipping_predictor_level_buffer.specs.Metrics.{metricsSays}
 
@@ -19,6 +21,13 @@ measured-back (Measured.Refused cause) = ap Measured.Refused (cause-back cause)
 
 pub measured-fixed : (a b : Measured) → measuredSays a ≡ measuredSays b → a ≡ b
 measured-fixed = fixed measuredSays (answerOf Measured.Level Measured.Refused) measured-back
+
+two-back : (m : MeasuredTwo) → answerOf MeasuredTwo.Levels MeasuredTwo.Refused (measuredTwoSays m) ≡ m
+two-back (MeasuredTwo.Levels two) = refl
+two-back (MeasuredTwo.Refused cause) = ap MeasuredTwo.Refused (cause-back cause)
+
+pub two-fixed : (a b : MeasuredTwo) → measuredTwoSays a ≡ measuredTwoSays b → a ≡ b
+two-fixed = fixed measuredTwoSays (answerOf MeasuredTwo.Levels MeasuredTwo.Refused) two-back
 
 abbrev metricsOf : Option Level → Metrics
 metricsOf (some metrics) = Found metrics

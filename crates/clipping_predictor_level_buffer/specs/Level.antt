@@ -3,7 +3,7 @@
 use mathlib.Core.Bool.{Bool, true, false, _&&_}
 use mathlib.Core.List.{List, map}
 use Prim.Native.Nat.{ℕ}
-use lib.Dec.{leb}
+use lib.Dec.{leb, eqb}
 use lib.Ieee.{Float, binary32, mul}
 use lib.ListN.{length}
 use Rattle.numbers.specs.declared.refusal.Refusal.the-variants.{FrameSize}
@@ -14,6 +14,9 @@ use Rattle.clipping_predictor_level_buffer.specs.declared.level.Level.{L
 use Rattle.clipping_predictor_level_buffer.specs.declared.level.Measured as Measured
 use Rattle.clipping_predictor_level_buffer.specs.declared.level.Measured.{Measured}
 use Rattle.clipping_predictor_level_buffer.specs.declared.level.Measured.the-variants.{Refused}
+use Rattle.clipping_predictor_level_buffer.specs.declared.level.TwoLevels.{TwoLevels}
+use Rattle.clipping_predictor_level_buffer.specs.declared.level.MeasuredTwo.{MeasuredTwo}
+use Rattle.clipping_predictor_level_buffer.specs.declared.level.MeasuredTwo.the-variants as MeasuredTwo
 use Rattle.clipping_predictor_level_buffer.specs.Statistics.{mean, largest}
 
 -- "samples per channel not 1 to 480"
@@ -36,5 +39,28 @@ abbrev pub measuredIf : Bool → List Float → Measured
 measuredIf true samples = Measured.the-variants.Level (frameRecord samples)
 measuredIf false samples = Refused FrameSize
 
+-- cause 9 of one channel: "samples per channel not 1 to 480"
+abbrev pub isMeasured : List Float → Bool
+isMeasured samples = leb 1 (length samples) && leb (length samples) maxSamplesPerChannel
+
 unfoldable pub measureOf : List Float → Measured
-measureOf samples = measuredIf (leb 1 (length samples) && leb (length samples) maxSamplesPerChannel) samples
+measureOf samples = measuredIf (isMeasured samples) samples
+
+-- ---- two channels of one frame
+
+-- document 01's number and values for each case of the answer
+abbrev pub measuredTwoSays : MeasuredTwo → Said TwoLevels
+measuredTwoSays (MeasuredTwo.Levels two) = accepted two
+measuredTwoSays (MeasuredTwo.Refused cause) = refused (numberOf cause)
+
+-- the record of each
+abbrev pub twoRecords : List Float → List Float → TwoLevels
+twoRecords first second = record { first = frameRecord first; second = frameRecord second }
+
+abbrev pub measuredTwoIf : Bool → List Float → List Float → MeasuredTwo
+measuredTwoIf true first second = MeasuredTwo.Levels (twoRecords first second)
+measuredTwoIf false first second = MeasuredTwo.Refused FrameSize
+
+-- cause 9 of both: the channels of a frame have as many samples each
+unfoldable pub measureTwoOf : List Float → List Float → MeasuredTwo
+measureTwoOf first second = measuredTwoIf (isMeasured first && eqb (length first) (length second)) first second

@@ -1,9 +1,9 @@
 // The level of one channel's frame: its mean square and its peak. Ports what `analyze` of clipping_predictor.rs works out for each channel.
 ghost use mathlib.Core.Path.{_≡_};
-ghost use Prim.Native.Nat.{_≤_};
+ghost use Prim.Native.Nat.{_+_, _≤_};
 ghost use lib.ListN.{length};
-ghost use Rattle.clipping_predictor_level_buffer.specs.Level.{maxSamplesPerChannel, frameRecord, measuredSays, measureOf};
-ghost use Rattle.clipping_predictor_level_buffer.specs.Running.{largestPart, withFour, Reached, Passed};
+ghost use Rattle.clipping_predictor_level_buffer.specs.Level.{maxSamplesPerChannel, frameRecord, measuredSays, measureOf, twoRecords, measuredTwoSays, measureTwoOf};
+ghost use Rattle.clipping_predictor_level_buffer.specs.Running.{levelFrom, withSample, largestPart, withFour, nothingTaken, fourTaken, Reached, Passed, BothReached};
 use numbers::refusal::Refusal;
 
 // The most samples that a frame has in one channel.
@@ -22,69 +22,146 @@ pub enum Measured {
     Refused(Refusal),
 }
 
-// How far a measurement has come: the place of the next sample, and the sum of the squares and the bits of the peak up to there.
+// The levels of two channels of one frame.
+pub struct TwoLevels {
+    pub first: Level,
+    pub second: Level,
+}
+
+// Both, or why there are none.
+pub enum MeasuredTwo {
+    Levels(TwoLevels),
+    Refused(Refusal),
+}
+
+// How far a measurement has come: the place of the next sample, and the sum of the squares and the peak up to there.
 struct Running {
     at: usize,
     sum: f32,
-    peak: u32,
+    peak: f32,
 }
 
-// The bits of a peak in four parts, each that of every fourth sample.
+// Two measurements.
+struct Both {
+    first: Running,
+    second: Running,
+}
+
+// A peak in four parts, each that of every fourth sample.
 struct Peaks {
-    w: u32,
-    x: u32,
-    y: u32,
-    z: u32,
+    w: f32,
+    x: f32,
+    y: f32,
+    z: f32,
+}
+
+// A measurement by fours: the sum of the squares, and the peak in four parts.
+struct Taking {
+    sum: f32,
+    peaks: Peaks,
+}
+
+// A peak with one sample more. A not-a-number counts as 0, so the larger is a number's, for which the machine has one instruction.
+fn with_sample(peak: f32, sample: f32) -> f32
+    ensures { λ r. ⌜ r ≡ withSample peak sample ⌝ }
+{
+    crate::larger(peak, f32::from_bits(levels::parts::magnitude_bits(sample)))
 }
 
 impl Peaks {
     fn with(self, w: f32, x: f32, y: f32, z: f32) -> Peaks
-        ensures { λ r. ⌜ largestPart r ≡ withFour (largestPart self) w x y z ⌝ }
+        ensures { λ r. ⌜ r ≡ withFour self w x y z ⌝ }
     {
         Peaks {
-            w: numbers::word::larger(self.w, levels::parts::magnitude_bits(w)),
-            x: numbers::word::larger(self.x, levels::parts::magnitude_bits(x)),
-            y: numbers::word::larger(self.y, levels::parts::magnitude_bits(y)),
-            z: numbers::word::larger(self.z, levels::parts::magnitude_bits(z)),
+            w: with_sample(self.w, w),
+            x: with_sample(self.x, x),
+            y: with_sample(self.y, y),
+            z: with_sample(self.z, z),
         }
     }
 
-    fn largest(self) -> u32
+    fn largest(self) -> f32
         ensures { λ r. ⌜ r ≡ largestPart self ⌝ }
     {
-        numbers::word::larger(
-            numbers::word::larger(self.w, self.x),
-            numbers::word::larger(self.y, self.z),
-        )
+        crate::larger(crate::larger(self.w, self.x), crate::larger(self.y, self.z))
     }
 }
 
-// Four samples a turn. The sum is one chain of rounded additions, and nothing beside it may take longer: so the peak stays a whole
-// number, which the order of the bits allows, in four parts, which the machine compares at once.
+// Nothing is measured yet.
+fn nothing_taken() -> Taking
+    ensures { λ r. ⌜ r ≡ nothingTaken ⌝ }
+{
+    Taking {
+        sum: 0.0,
+        peaks: Peaks {
+            w: 0.0,
+            x: 0.0,
+            y: 0.0,
+            z: 0.0,
+        },
+    }
+}
+
+// Four samples more. The sum is one chain of rounded additions, and nothing beside it may take longer: so the peak is kept in four
+// parts, which the machine compares at once.
+fn taken(t: Taking, samples: &[f32], at: usize) -> Taking
+    requires { ⌜ at + 4 ≤ length (now samples) ⌝ }
+    ensures { λ r. ⌜ r ≡ fourTaken t (now (samples .entry)) at ⌝ }
+{
+    let w = samples[at];
+    let x = samples[at + 1];
+    let y = samples[at + 2];
+    let z = samples[at + 3];
+    let peaks = t.peaks;
+    Taking {
+        sum: t.sum + w * w + x * x + y * y + z * z,
+        peaks: peaks.with(w, x, y, z),
+    }
+}
+
 fn by_fours(samples: &[f32]) -> Running
     ensures { λ r. ⌜ Reached (now (samples .entry)) r ⌝ }
 {
-    let mut sum = 0.0f32;
-    let mut peaks = Peaks {
-        w: 0,
-        x: 0,
-        y: 0,
-        z: 0,
-    };
+    let mut t = nothing_taken();
     let mut at = 0;
     while 4 <= samples.len() - at {
-        let w = samples[at];
-        let x = samples[at + 1];
-        let y = samples[at + 2];
-        let z = samples[at + 3];
-        sum = sum + w * w + x * x + y * y + z * z;
-        peaks = peaks.with(w, x, y, z);
+        t = taken(t, samples, at);
         at += 4;
     }
+    let peaks = t.peaks;
     Running {
         at,
-        sum,
+        sum: t.sum,
         peak: peaks.largest(),
+    }
+}
+
+// Two channels at once: neither chain of additions waits for the other.
+fn both_by_fours(first: &[f32], second: &[f32]) -> Both
+    requires { ⌜ length (now first) ≡ length (now second) ⌝ }
+    ensures { λ r. ⌜ BothReached (now (first .entry)) (now (second .entry)) r ⌝ }
+{
+    let mut s = nothing_taken();
+    let mut t = nothing_taken();
+    let mut at = 0;
+    while 4 <= first.len() - at {
+        s = taken(s, first, at);
+        t = taken(t, second, at);
+        at += 4;
+    }
+    let p = s.peaks;
+    let q = t.peaks;
+    Both {
+        first: Running {
+            at,
+            sum: s.sum,
+            peak: p.largest(),
+        },
+        second: Running {
+            at,
+            sum: t.sum,
+            peak: q.largest(),
+        },
     }
 }
 
@@ -99,10 +176,20 @@ fn one_by_one(samples: &[f32], from: Running) -> Running
     while at < samples.len() {
         let x = samples[at];
         sum = sum + x * x;
-        peak = numbers::word::larger(peak, levels::parts::magnitude_bits(x));
+        peak = with_sample(peak, x);
         at += 1;
     }
     Running { at, sum, peak }
+}
+
+// A level, from a measurement and the count of its samples.
+fn level_from(all: Running, count: u16) -> Level
+    ensures { λ r. ⌜ r ≡ levelFrom all count ⌝ }
+{
+    Level {
+        average: all.sum / (count as f32),
+        max: all.peak,
+    }
 }
 
 // The record of a frame whose samples are few enough to be counted in a u16.
@@ -111,10 +198,21 @@ fn frame_record(samples: &[f32]) -> Level
     ensures { λ r. ⌜ r ≡ frameRecord (now (samples .entry)) ⌝ }
 {
     let all = one_by_one(samples, by_fours(samples));
-    let count = samples.len() as u16;
-    Level {
-        average: all.sum / (count as f32),
-        max: f32::from_bits(all.peak),
+    level_from(all, samples.len() as u16)
+}
+
+// The records of two channels of one frame.
+fn two_records(first: &[f32], second: &[f32]) -> TwoLevels
+    requires { ⌜ (length (now first) ≡ length (now second)) × (length (now first) ≤ maxSamplesPerChannel) ⌝ }
+    ensures { λ r. ⌜ r ≡ twoRecords (now (first .entry)) (now (second .entry)) ⌝ }
+{
+    let both = both_by_fours(first, second);
+    let a = both.first;
+    let b = both.second;
+    let count = first.len() as u16;
+    TwoLevels {
+        first: level_from(one_by_one(first, a), count),
+        second: level_from(one_by_one(second, b), count),
     }
 }
 
@@ -128,4 +226,20 @@ pub fn measure(samples: &[f32]) -> Measured
         return Measured::Refused(Refusal::FrameSize);
     }
     Measured::Level(frame_record(samples))
+}
+
+// Two channels of one frame, which has as many samples of each.
+pub fn measure_two(first: &[f32], second: &[f32]) -> MeasuredTwo
+    ensures { λ r. ⌜ measuredTwoSays r ≡ measuredTwoSays (measureTwoOf (now (first .entry)) (now (second .entry))) ⌝ }
+{
+    if first.len() < 1 {
+        return MeasuredTwo::Refused(Refusal::FrameSize);
+    }
+    if MAX_SAMPLES_PER_CHANNEL < first.len() {
+        return MeasuredTwo::Refused(Refusal::FrameSize);
+    }
+    if first.len() != second.len() {
+        return MeasuredTwo::Refused(Refusal::FrameSize);
+    }
+    MeasuredTwo::Levels(two_records(first, second))
 }

@@ -1,4 +1,5 @@
 pub mod ClippedRatio
+pub mod Known
 pub mod Channels
 pub mod Control
 pub mod ControlCalls

@@ -2,12 +2,14 @@
 // change and where the answer is made.
 ghost use mathlib.Core.Path.{_≡_};
 ghost use mathlib.Core.Bool.{true};
+ghost use Prim.Native.Nat.{_≤_};
 ghost use lib.Dec.{ltb};
 ghost use lib.Ieee.{lt};
-ghost use Rattle.clipping_predictor.specs.Predictor.{frameFits};
+ghost use Rattle.clipping_predictor.specs.Predictor.{maxChannels, frameFits};
 ghost use Rattle.clipping_predictor.specs.Predictor.{viewOf as predictorOf};
 ghost use Rattle.clipping_predictor.specs.AllRings.{predictedFor};
 ghost use Rattle.input_volume_controller.specs.ClippedRatio.{clippedRatio};
+ghost use Rattle.input_volume_controller.specs.Known.{PeaksKnown, anyLevels, knownLevels};
 ghost use Rattle.input_volume_controller.specs.Controller.{together, viewOf, Good};
 ghost use Rattle.input_volume_controller.specs.Control.{controlOf, Good as GoodControl};
 ghost use Rattle.input_volume_controller.specs.Differ.{differ};
@@ -22,8 +24,12 @@ use crate::volume_control::lower_channels;
 use crate::volume_control::one_frame_more;
 use clipping_predictor::Asked;
 use clipping_predictor::ClippingPredictor;
-use clipping_predictor::Estimated;
+use clipping_predictor::Heard;
+use clipping_predictor::MAX_CHANNELS;
 use clipping_predictor::Question;
+use clipping_predictor::measuring::Levels;
+use clipping_predictor::measuring::measure_channels;
+use clipping_predictor_level_buffer::level::Level;
 use mono_input_volume_controller::mono::MAX_INPUT_VOLUME;
 use numbers::truth::either;
 
@@ -67,55 +73,77 @@ fn differ(clipped: bool, control: VolumeControl, drop: u8, other: u8) -> bool
 }
 
 // The wait is over: clipping that is seen or predicted lowers every channel and empties the rings.
-fn tested(
-    control: VolumeControl,
-    predictor: ClippingPredictor,
-    e: Estimated,
-    clipped: bool,
-) -> Analyzed
-    requires { ⌜ Good (together control predictor) ⌝ }
-    ensures { λ r. ⌜ Framed (handled clipped e (viewOf (together control predictor))) r ⌝ }
+fn tested(control: VolumeControl, heard: Heard, clipped: bool) -> Analyzed
+    requires { ⌜ Good (together control (heard .predictor)) ⌝ }
+    ensures { λ r. ⌜ Framed (handled clipped (heard .estimated) (viewOf (together control (heard .predictor)))) r ⌝ }
 {
+    let e = heard.estimated;
+    let predictor = heard.predictor;
     let near = differ(clipped, control, e.low, e.high);
     if !either(clipped, 0 < e.drop) {
         return Analyzed {
-            answer: Analysis::Accepted(near),
             controller: InputVolumeController { control, predictor },
+            answer: Analysis::Accepted(near),
         };
     }
     let step = numbers::byte::larger(control.settings.step, e.drop);
     Analyzed {
-        answer: Analysis::Accepted(near),
         controller: InputVolumeController {
             control: lower_channels(control, step),
             predictor: predictor.reset(),
         },
+        answer: Analysis::Accepted(near),
     }
 }
 
 // A frame that is in the rings, with what they answered: within the wait it only counts.
 fn entered(
     control: VolumeControl,
-    predictor: ClippingPredictor,
-    e: Estimated,
+    heard: Heard,
     samples: usize,
     frame: &[f32],
+    levels: Levels,
 ) -> Analyzed
-    requires { ⌜ Good (together control predictor) × (frameFits (control .channels .count) samples (now frame) ≡ true) × (e ≡ predictedFor (questionOf (controlOf control)) (predictorOf predictor)) ⌝ }
-    ensures { λ r. ⌜ Framed (unlessWaiting (ltb (control .since) (control .settings .«clipped_wait»)) (lt (control .settings .«clipped_ratio») (clippedRatio (control .channels .count) samples (now (frame .entry)))) (viewOf (together control predictor))) r ⌝ }
+    requires { ⌜ Good (together control (heard .predictor)) × (frameFits (control .channels .count) samples (now frame) ≡ true) × PeaksKnown (control .channels .count) samples (now frame) (levels .items) × (heard .estimated ≡ predictedFor (questionOf (controlOf control)) (predictorOf (heard .predictor))) ⌝ }
+    ensures { λ r. ⌜ Framed (unlessWaiting (ltb (control .since) (control .settings .«clipped_wait»)) (lt (control .settings .«clipped_ratio») (clippedRatio (control .channels .count) samples (now (frame .entry)))) (viewOf (together control (heard .predictor)))) r ⌝ }
 {
     if control.since < control.settings.clipped_wait {
+        let predictor = heard.predictor;
         return Analyzed {
-            answer: Analysis::Accepted(false),
             controller: InputVolumeController {
                 control: one_frame_more(control),
                 predictor,
             },
+            answer: Analysis::Accepted(false),
         };
     }
-    let ratio = compute_clipped_ratio(control.channels.count, samples, frame);
+    let ratio = compute_clipped_ratio(control.channels.count, samples, frame, levels);
     let threshold = control.settings.clipped_ratio;
-    tested(control, predictor, e, ratio > threshold)
+    tested(control, heard, ratio > threshold)
+}
+
+// Levels that say nothing: any sample of any channel may be clipped.
+fn any_levels() -> Levels
+    ensures { λ r. ⌜ r .items ≡ anyLevels ⌝ }
+{
+    let loud = Level {
+        average: 0.0,
+        max: f32::from_bits(0x7f80_0000),
+    };
+    let items = [loud; MAX_CHANNELS];
+    Levels { items }
+}
+
+// The levels of a frame that fits. With the predictor off they are not asked for, and so not measured.
+fn known_levels(on: bool, channels: usize, samples: usize, frame: &[f32]) -> Levels
+    requires { ⌜ (1 ≤ channels) × (channels ≤ maxChannels) × (frameFits channels samples (now frame) ≡ true) ⌝ }
+    ensures { λ r. ⌜ r .items ≡ knownLevels on channels samples (now (frame .entry)) ⌝ }
+{
+    if on {
+        let measured = measure_channels(channels, samples, frame);
+        return measured.levels;
+    }
+    any_levels()
 }
 
 // With capture on a frame enters the rings; with capture off it only sets the volume.
@@ -129,12 +157,17 @@ pub fn accepted(
     ensures { λ r. ⌜ Framed (ifUsed (control .used) samples (now (frame .entry)) (viewOf (together control predictor))) r ⌝ }
 {
     if control.used {
-        let heard = predictor.heard(samples, frame, question(control));
-        let with_frame = heard.predictor;
-        return entered(control, with_frame, heard.estimated, samples, frame);
+        let levels = known_levels(
+            predictor.settings.enabled,
+            control.channels.count,
+            samples,
+            frame,
+        );
+        let heard = predictor.heard_levels(levels, question(control));
+        return entered(control, heard, samples, frame, levels);
     }
     Analyzed {
-        answer: Analysis::Accepted(false),
         controller: InputVolumeController { control, predictor },
+        answer: Analysis::Accepted(false),
     }
 }

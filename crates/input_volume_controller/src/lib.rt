@@ -53,8 +53,8 @@ pub enum Analysis {
 }
 
 pub struct Analyzed {
-    pub answer: Analysis,
     pub controller: InputVolumeController,
+    pub answer: Analysis,
 }
 
 // The recommended volume, if there is one.
@@ -141,8 +141,8 @@ impl InputVolumeController {
         let given = numbers::natural::within(0, 255, applied_input_volume);
         let Natural::Number(volume) = given else {
             return Analyzed {
-                answer: Analysis::Refused(Refusal::InputVolume),
                 controller: self,
+                answer: Analysis::Refused(Refusal::InputVolume),
             };
         };
         if !frame_fits(
@@ -151,8 +151,8 @@ impl InputVolumeController {
             frame,
         ) {
             return Analyzed {
-                answer: Analysis::Refused(Refusal::FrameSize),
                 controller: self,
+                answer: Analysis::Refused(Refusal::FrameSize),
             };
         }
         let control = self.control;

@@ -77,6 +77,14 @@ module _ {A : Type 0} where
   map-listed g f zero = refl
   map-listed {B} g f (suc n) = ap (λ (l : List B). g (f 0) ∷ l) (map-listed g (λ i. f (suc i)) n)
 
+  -- a list is that of its elements by their places
+  pub listed-of : (xs : List A) (d : A) (f : ℕ → A) (n : ℕ) → length xs ≡ n → ((i : ℕ) → i < n → getD xs i d ≡ f i) → xs ≡ listed f n
+  unfolding listed
+  listed-of [] d f zero e h = refl
+  listed-of [] d f (suc n) e h = absurd (not-suc-le-zero {n = n} (omega arith))
+  listed-of (x ∷ xs) d f zero e h = absurd (not-suc-le-zero {n = length xs} (omega arith))
+  listed-of (x ∷ xs) d f (suc n) e h = λ i. h 0 (omega arith) i ∷ listed-of xs d (λ j. f (suc j)) n (omega arith) (λ j k. h (suc j) (omega arith)) i
+
   -- a list of one value throughout
   pub listed-constant : (a : A) (n : ℕ) → listed (λ _. a) n ≡ replicate n a
   unfolding listed

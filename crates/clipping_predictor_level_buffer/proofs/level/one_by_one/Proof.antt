@@ -1,6 +1,6 @@
 -- `clipping_predictor_level_buffer::level::one_by_one` meets its contract: each turn takes one sample more. Assumes nothing.
-use mathlib.Core.Path.{refl, ap, _∙_}
-use Prim.Native.Nat.{_-_, max}
+use mathlib.Core.Path.{refl}
+use Prim.Native.Nat.{_-_}
 use native.Mathlib.Omega.{arith}
 use borrow.Author.Needs.{needs}
 use lib.ListN.{length}
@@ -10,10 +10,10 @@ use Rattle.clipping_predictor_level_buffer.proofs.level.one_by_one.Stat
 use Rattle.clipping_predictor_level_buffer.proofs.level.one_by_one.Tie as tie
 
 abbrev Inv-loop : tie.InvT-loop
-Inv-loop samples i₀ s₀ p₀ i s p = Reached samples (running i s p)
+Inv-loop samples at₀ sum₀ peak₀ at sum peak = Reached samples (running at sum peak)
 
 abbrev μ-loop : tie.MeasureT-loop
-μ-loop samples i₀ s₀ p₀ i s p = length samples - i
+μ-loop samples at₀ sum₀ peak₀ at sum peak = length samples - at
 
 loop-holds : tie.Need-loop-holds Inv-loop μ-loop
 loop-holds c = c .before .pre
@@ -24,11 +24,8 @@ mul-x c = omega arith
 shared-slice-read-x : tie.Need-shared-slice-read-x Inv-loop μ-loop
 shared-slice-read-x c = omega arith
 
-magnitude-bits-requires : tie.Need-magnitude-bits-requires Inv-loop μ-loop
-magnitude-bits-requires c κs = search needs
-
-larger-requires : tie.Need-larger-requires Inv-loop μ-loop
-larger-requires c κs = search needs
+with-sample-requires : tie.Need-with-sample-requires Inv-loop μ-loop
+with-sample-requires c κs = search needs
 
 add-at : tie.Need-add-at Inv-loop μ-loop
 add-at c = omega arith
@@ -37,9 +34,7 @@ loop-less : tie.Need-loop-less Inv-loop μ-loop
 loop-less c = omega arith
 
 loop-again : tie.Need-loop-again Inv-loop μ-loop
-loop-again c =
-    let l = c .before .before .before .before .loop in
-    goes-on _ _ _ _ _ _ (l .inv) (omega arith) refl (c .larger .ensures ∙ ap (max (l .peak)) (c .before .magnitude-bits .ensures))
+loop-again c = let l = c .before .before .before .loop in goes-on _ (c .before .shared-slice-known2 .given) _ _ _ _ _ (l .inv) (omega arith) refl (c .with-sample .ensures)
 
 returns : tie.Need-returns Inv-loop μ-loop
 returns c = ends _ _ (c .before .loop .inv) (c .loop-test .left)
@@ -53,8 +48,7 @@ one-by-one-spec =
     loop-holds
     mul-x
     shared-slice-read-x
-    magnitude-bits-requires
-    larger-requires
+    with-sample-requires
     add-at
     loop-less
     loop-again

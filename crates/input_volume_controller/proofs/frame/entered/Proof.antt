@@ -13,7 +13,7 @@ use Rattle.input_volume_controller.proofs.frame.entered.Statement.{stat
 use Rattle.input_volume_controller.proofs.frame.entered.Tie as tie
 
 abbrev seen : tie.Start → Controller
-seen s = viewOf (together (s .args .control) (s .args .predictor))
+seen s = viewOf (together (s .args .control) (s .args .heard .predictor))
 
 one-frame-more-requires : tie.Need-one-frame-more-requires
 one-frame-more-requires c κs = search needs
@@ -21,8 +21,8 @@ one-frame-more-requires c κs = search needs
 returns : tie.Need-returns
 unfolding viewOf controlOf
 returns c =
-    let s = c .before .before .before .before in
-    framed _ _ _ _ (is-waiting _ _ _ _ (c .before .if1 .taken)) (with-control (together (s .args .control) (s .args .predictor)) _ _ (s .pre .0) (c .one-frame-more .ensures) refl)
+    let s = c .before .before .before .before .before in
+    framed _ _ _ _ (is-waiting _ _ _ _ (c .before .before .if1 .taken)) (with-control (together (s .args .control) (s .args .heard .predictor)) _ _ (s .pre .0) (c .one-frame-more .ensures) refl)
 
 compute-clipped-ratio-requires : tie.Need-compute-clipped-ratio-requires
 compute-clipped-ratio-requires c κs = search needs
@@ -37,7 +37,7 @@ returns-2 c =
     let s = r .before .before .before .before in
     let k = s .args .control in
     let over = r .before .if1 .left in
-    let asked = s .pre .2 ∙ ap (λ (b : Bool). predictedFor (questionIf b (askedOf (controlOf k))) (seen s .predictor)) (le-ltb _ _ over) in
+    let asked = s .pre .3 ∙ ap (λ (b : Bool). predictedFor (questionIf b (askedOf (controlOf k))) (seen s .predictor)) (le-ltb _ _ over) in
     framed-same
     ((λ i. handled (lt (k .settings .«clipped_ratio») (r .compute-clipped-ratio .ensures i)) (asked i) (seen s)) ∙ sym (not-waiting _ _ _ _ over))
     (c .tested .ensures)

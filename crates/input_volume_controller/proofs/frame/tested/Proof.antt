@@ -29,8 +29,8 @@ unfolding viewOf controlOf
 returns c =
     let e = c .before in
     let d = e .before .before in
-    let s = d .before in
-    framed _ _ _ _ (as-marked (d .differ .ensures) (not-handled (s .args .clipped) (s .args .e) (viewOf (together (s .args .control) (s .args .predictor))) (sym (e .either .ensures) ∙ not-true _ (c .if1 .taken)))) (record { good = s .pre; is = refl })
+    let s = d .before .before .before in
+    framed _ _ _ _ (as-marked (d .differ .ensures) (not-handled (s .args .clipped) (s .args .heard .estimated) (viewOf (together (s .args .control) (s .args .heard .predictor))) (sym (e .either .ensures) ∙ not-true _ (c .if1 .taken)))) (record { good = s .pre; is = refl })
 
 larger-requires : tie.Need-larger-requires
 larger-requires c κs = search needs
@@ -47,11 +47,11 @@ returns-2 c =
     let i = c .before .before .before in
     let e = i .before in
     let d = e .before .before in
-    let s = d .before in
+    let s = d .before .before .before in
     let l = c .before .lower-channels .ensures in
-    framed _ _ _ _ (as-marked (d .differ .ensures) (is-handled (s .args .clipped) (s .args .e) (viewOf (together (s .args .control) (s .args .predictor))) (sym (e .either .ensures) ∙ not-false _ (i .if1 .left))))
-    (whole (together (s .args .control) (s .args .predictor)) _ _ _ _ (s .pre) (record { good = l .good; is = l .is ∙ ap (λ (n : ℕ). lowerChannels n (controlOf (s .args .control))) (c .before .before .larger .ensures) }) (c .reset .ensures .good) (c .reset .ensures .view)
-    (record { channels = lower-count (controlOf (s .args .control)) _; rings = emptied-count (PredictorOf.viewOf (s .args .predictor)) }))
+    framed _ _ _ _ (as-marked (d .differ .ensures) (is-handled (s .args .clipped) (s .args .heard .estimated) (viewOf (together (s .args .control) (s .args .heard .predictor))) (sym (e .either .ensures) ∙ not-false _ (i .if1 .left))))
+    (whole (together (s .args .control) (s .args .heard .predictor)) _ _ _ _ (s .pre) (record { good = l .good; is = l .is ∙ ap (λ (n : ℕ). lowerChannels n (controlOf (s .args .control))) (c .before .before .larger .ensures) }) (c .reset .ensures .good) (c .reset .ensures .view)
+    (record { channels = lower-count (controlOf (s .args .control)) _; rings = emptied-count (PredictorOf.viewOf (s .args .heard .predictor)) }))
 
 pub tested-spec : {M : Type 1} → statement M
 tested-spec = tie.close (tie.spec differ-requires either-requires returns larger-requires lower-channels-requires reset-requires returns-2)

@@ -1,49 +1,29 @@
--- `clipping_predictor_level_buffer::level::Peaks::with` meets its contract: a largest of largest ones is the largest of all. Assumes nothing.
+-- `clipping_predictor_level_buffer::level::Peaks::with` meets its contract: each part takes one sample more. Assumes nothing.
 use borrow.Author.Needs.{needs}
-use Rattle.levels.specs.FloatParts.{magnitudeBitsOf}
-use Rattle.clipping_predictor_level_buffer.proofs.Steps.{regrouped}
 use Rattle.clipping_predictor_level_buffer.proofs.level.Peaks.with.Statement.{statement}
 use Rattle.clipping_predictor_level_buffer.proofs.level.Peaks.with.Tie as tie
 
-magnitude-bits-requires : tie.Need-magnitude-bits-requires
-magnitude-bits-requires c κs = search needs
+with-sample-requires : tie.Need-with-sample-requires
+with-sample-requires c κs = search needs
 
-larger-requires : tie.Need-larger-requires
-larger-requires c κs = search needs
+with-sample-requires-2 : tie.Need-with-sample-requires-2
+with-sample-requires-2 c κs = search needs
 
-magnitude-bits-requires-2 : tie.Need-magnitude-bits-requires-2
-magnitude-bits-requires-2 c κs = search needs
+with-sample-requires-3 : tie.Need-with-sample-requires-3
+with-sample-requires-3 c κs = search needs
 
-larger-requires-2 : tie.Need-larger-requires-2
-larger-requires-2 c κs = search needs
-
-magnitude-bits-requires-3 : tie.Need-magnitude-bits-requires-3
-magnitude-bits-requires-3 c κs = search needs
-
-larger-requires-3 : tie.Need-larger-requires-3
-larger-requires-3 c κs = search needs
-
-magnitude-bits-requires-4 : tie.Need-magnitude-bits-requires-4
-magnitude-bits-requires-4 c κs = search needs
-
-larger-requires-4 : tie.Need-larger-requires-4
-larger-requires-4 c κs = search needs
+with-sample-requires-4 : tie.Need-with-sample-requires-4
+with-sample-requires-4 c κs = search needs
 
 returns : tie.Need-returns
-returns c =
-    let s = c .before .before .before .before .before .before .before .before .args in
-    cc (regrouped (s .self .w) (s .self .x) (s .self .y) (s .self .z) (magnitudeBitsOf (s .w)) (magnitudeBitsOf (s .x)) (magnitudeBitsOf (s .y)) (magnitudeBitsOf (s .z)))
+returns c = λ i. record { w = c .before .before .before .with-sample .ensures i; x = c .before .before .with-sample2 .ensures i; y = c .before .with-sample3 .ensures i; z = c .with-sample4 .ensures i }
 
 pub with-spec : {M : Type 1} → statement M
 with-spec =
     tie.close
     (tie.spec
-    magnitude-bits-requires
-    larger-requires
-    magnitude-bits-requires-2
-    larger-requires-2
-    magnitude-bits-requires-3
-    larger-requires-3
-    magnitude-bits-requires-4
-    larger-requires-4
+    with-sample-requires
+    with-sample-requires-2
+    with-sample-requires-3
+    with-sample-requires-4
     returns)
