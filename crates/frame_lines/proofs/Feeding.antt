@@ -39,33 +39,13 @@ module _ (bytes : List ℕ) (i : ℕ) where
   unfolding feedFrom firstFeed
   feed-none h = sym (ap (λ (t : List ℕ). placeFrom i (firstFeed t)) (drop-of-length-le bytes h))
 
--- eight bytes at once
-module _ (bytes : List ℕ) where
-  abbrev feedAt : ℕ → Bool
-  feedAt k = isFeed (getD bytes k 0)
-
-  pass-one : (k j : ℕ) → j ≡ k + 1 → k < length bytes → feedAt k ≡ false → feedFrom bytes j ≡ feedFrom bytes k
-  pass-one k j e h f = ap (feedFrom bytes) e ∙ feed-on bytes k h (eqb-false (getD bytes k 0) 10 f)
-
-  pub pass-eight : (i : ℕ) → i + 8 ≤ length bytes
-      → (((((((feedAt i || feedAt (i + 1)) || feedAt (i + 2)) || feedAt (i + 3)) || feedAt (i + 4)) || feedAt (i + 5)) || feedAt (i + 6)) || feedAt (i + 7)) ≡ false
-      → feedFrom bytes (i + 8) ≡ feedFrom bytes i
-  pass-eight i h e =
-      let n7 = neither _ (feedAt (i + 7)) e in
-      let n6 = neither _ (feedAt (i + 6)) (n7 .first) in
-      let n5 = neither _ (feedAt (i + 5)) (n6 .first) in
-      let n4 = neither _ (feedAt (i + 4)) (n5 .first) in
-      let n3 = neither _ (feedAt (i + 3)) (n4 .first) in
-      let n2 = neither _ (feedAt (i + 2)) (n3 .first) in
-      let n1 = neither (feedAt i) (feedAt (i + 1)) (n2 .first) in
-      pass-one (i + 7) (i + 8) (omega arith) (omega arith) (n7 .second)
-      ∙ pass-one (i + 6) (i + 7) (omega arith) (omega arith) (n6 .second)
-      ∙ pass-one (i + 5) (i + 6) (omega arith) (omega arith) (n5 .second)
-      ∙ pass-one (i + 4) (i + 5) (omega arith) (omega arith) (n4 .second)
-      ∙ pass-one (i + 3) (i + 4) (omega arith) (omega arith) (n3 .second)
-      ∙ pass-one (i + 2) (i + 3) (omega arith) (omega arith) (n2 .second)
-      ∙ pass-one (i + 1) (i + 2) (omega arith) (omega arith) (n1 .second)
-      ∙ pass-one i (i + 1) refl (omega arith) (n1 .first)
+-- one byte more is passed over, where the tests so far tell it of i
+pub pass-on : (bytes : List ℕ) (start i : ℕ) (t : Bool) → start + i < length bytes → (t ≡ false → feedFrom bytes (start + i) ≡ feedFrom bytes start)
+    → (t || isFeed (getD bytes (start + i) 0)) ≡ false → feedFrom bytes (start + (i + 1)) ≡ feedFrom bytes start
+pass-on bytes start i t h f e =
+    let n = neither t (isFeed (getD bytes (start + i) 0)) e in
+    let k : start + (i + 1) ≡ start + i + 1 = omega arith in
+    ap (feedFrom bytes) k ∙ feed-on bytes (start + i) h (eqb-false (getD bytes (start + i) 0) 10 (n .second)) ∙ f (n .first)
 
 -- ---- what it tells of a text
 

@@ -20,13 +20,10 @@ use Rattle.frame_lines.specs.declared.line.Level.{Level}
 use Rattle.frame_lines.specs.declared.line.Head as Head
 use Rattle.frame_lines.specs.declared.line.Head.{Head}
 use Rattle.frame_lines.specs.Digits.{areDigits, number}
-use Rattle.frame_lines.specs.Weights.{pairWeight}
 use Rattle.frame_lines.specs.Line.{part, isBlank, isDashed, levelIsGood, levelIf, samplesStart, headIsGood}
 use Rattle.frame_lines.specs.Parsed.{floatOf, speechLevelOf}
 use Rattle.frame_lines.specs.Reading.{wordIf, wordAt, levelFieldIf, levelField, headIf, headOf}
 use Rattle.frame_lines.proofs.Tests.{and-false}
-use Rattle.frame_lines.proofs.Weighed.{pair-digits, pair-number, pair-none}
-use Rattle.frame_lines.proofs.Parts.{part-two}
 
 -- ---- what an answer tells
 
@@ -123,9 +120,9 @@ module _ (line : List ℕ) where
 
 module _ (line : List ℕ) where
   -- the blank behind the volume, and so on, or one of them is missing
-  pub volume-lost : 14 ≤ length line → 256 ≤ pairWeight (getD line 0 0) (getD line 1 0) → Head.the-variants.Malformed ≡ headOf line
+  pub volume-lost : areDigits (part line 0 2) ≡ false → Head.the-variants.Malformed ≡ headOf line
   unfolding headOf headIsGood
-  volume-lost h w = simp (part-two line (omega arith), pair-none _ _ w)
+  volume-lost e = simp e
 
   pub first-blank-lost : (getD line 2 0 ≡ 32 → ⊥) → Head.the-variants.Malformed ≡ headOf line
   unfolding headOf headIsGood
@@ -157,13 +154,13 @@ module _ (line : List ℕ) where
   pub too-short : length line < 14 → Head.the-variants.Malformed ≡ headOf line
   too-short h = level-bad (short-level h (isDashed line))
 
-  pub all-kept : (n : ℕ) (level : SpeechLevel) (start : ℕ) → 14 ≤ length line → pairWeight (getD line 0 0) (getD line 1 0) < 256 → getD line 2 0 ≡ 32
+  pub all-kept : (n : ℕ) (level : SpeechLevel) (start : ℕ) → areDigits (part line 0 2) ≡ true → getD line 2 0 ≡ 32
       → getD line 11 0 ≡ 32 → wordAt line 3 ≡ Word.the-variants.Number n → Levelled line level start
-      → Head.the-variants.Fields (pairWeight (getD line 0 0) (getD line 1 0)) (floatOf n) level start ≡ headOf line
+      → Head.the-variants.Fields (number (part line 0 2)) (floatOf n) level start ≡ headOf line
   unfolding headOf headIsGood
-  all-kept n level start h v b d w l =
+  all-kept n level start v b d w l =
       let t = told-word line 3 n w in
-      simp (part-two line (omega arith), pair-digits _ _ v, pair-number _ _ v, eq-eqb _ _ b, eq-eqb _ _ d, t .are, t .is, l .good, l .level-is, l .start-is)
+      simp (v, eq-eqb _ _ b, eq-eqb _ _ d, t .are, t .is, l .good, l .level-is, l .start-is)
 
 -- ---- what it tells
 

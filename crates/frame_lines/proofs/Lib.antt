@@ -1,6 +1,7 @@
 pub mod Tests
-pub mod Weighed
+pub mod Counted
 pub mod Parts
+pub mod Masks
 pub mod Heads
 pub mod Signed16
 pub mod SampleTexts

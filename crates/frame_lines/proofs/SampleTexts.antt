@@ -1,23 +1,23 @@
--- A text of samples: how far `read_samples` has come at each turn, where it stops, and whether that is the text's end. Assumes nothing.
+-- A text of samples: how far it is read at each turn, where it stops, and whether that is the text's end. Assumes nothing.
 use mathlib.Core.Path.{_≡_, refl, sym, ap, _∙_}
 use mathlib.Core.Bool.{Bool, true, false, _&&_}
 use mathlib.Core.List.{List, [], _∷_, _++_, map, append-assoc, append-nil, map-append}
-use Prim.Native.Nat.{ℕ, suc, _+_, _*_, _-_, _^_, _≤_, _<_}
+use Prim.Native.Nat.{ℕ, suc, _+_, _*_, _/_, _≤_, _<_}
 use native.Mathlib.Omega.{arith}
 use lib.Ieee.{Float}
 use lib.IntN.{ℤ}
-use lib.ListN.{length, getD, drop, set, length-append, length-map, length-drop}
+use lib.ListN.{length, take, drop, set, length-append, length-map, length-drop}
+use lib.Seq.{drop-drop}
 use Rattle.frame_lines.specs.Digits.{areDigits, number}
 use Rattle.frame_lines.specs.Samples.{four, signed16, areSamples, sampleIf, samplesIn}
-use Rattle.frame_lines.specs.Weights.{fourWeight}
+use Rattle.frame_lines.specs.Line.{part}
 use Rattle.frame_lines.specs.Parsed.{sampleOf, over}
 use Rattle.frame_lines.specs.Reading.{ReadAs}
 use Rattle.frame_lines.proofs.Tests.{false-unless, true-unless}
-use Rattle.frame_lines.proofs.Weighed.{four-digits, four-number, four-none}
-use Rattle.frame_lines.proofs.Parts.{behind-four}
 
--- ---- the end of the text
+-- ---- the text by fours
 
+-- fewer than four characters have no sample
 pub samples-short : (t : List ℕ) → length t < 4 → samplesIn t ≡ []
 unfolding samplesIn
 samples-short [] h = refl
@@ -25,6 +25,15 @@ samples-short (a ∷ []) h = refl
 samples-short (a ∷ b ∷ []) h = refl
 samples-short (a ∷ b ∷ c ∷ []) h = refl
 samples-short (a ∷ b ∷ c ∷ d ∷ t) h = absurd (omega arith)
+
+-- four or more have what the first four say
+samples-four : (t : List ℕ) → 4 ≤ length t → samplesIn t ≡ sampleIf (areDigits (take 4 t)) (number (take 4 t)) (samplesIn (drop 4 t))
+unfolding samplesIn
+samples-four [] h = absurd (omega arith)
+samples-four (a ∷ []) h = absurd (omega arith)
+samples-four (a ∷ b ∷ []) h = absurd (omega arith)
+samples-four (a ∷ b ∷ c ∷ []) h = absurd (omega arith)
+samples-four (a ∷ b ∷ c ∷ d ∷ t) h = refl
 
 -- a text that goes by fours of digits to its end has a sample for each four, and another has fewer
 whole-if : (t : Bool) (n : ℕ) (xs : List ℤ) (k : ℕ) (u : Bool) → (u ≡ true → length xs * 4 ≡ k) → (t && u) ≡ true → length (sampleIf t n xs) * 4 ≡ suc (suc (suc (suc k)))
@@ -84,62 +93,57 @@ length-over (x ∷ xs) (y ∷ ys) = ap suc (length-over xs ys)
 
 -- ---- the turns
 
-module _ (text : List ℕ) where
-  module _ (i : ℕ) (h : i + 4 ≤ length text) where
-    abbrev pub weightHere : ℕ
-    weightHere = fourWeight (getD text i 0) (getD text (i + 1) 0) (getD text (i + 2) 0) (getD text (i + 3) 0)
+module _ (text : List ℕ) (i j : ℕ) (e : j ≡ i + 4) (h : j ≤ length text) where
+  here : samplesIn (drop i text) ≡ sampleIf (areDigits (part text i 4)) (number (part text i 4)) (samplesIn (drop j text))
+  here =
+      samples-four (drop i text) (omega (arith, length-drop i text))
+      ∙ ap (λ (t : List ℕ). sampleIf (areDigits (part text i 4)) (number (part text i 4)) (samplesIn t)) (drop-drop 4 i text ∙ ap (λ (k : ℕ). drop k text) (sym e))
 
-    here : drop i text ≡ getD text i 0 ∷ getD text (i + 1) 0 ∷ getD text (i + 2) 0 ∷ getD text (i + 3) 0 ∷ drop (i + 4) text
-    here = behind-four text i (i + 1) (i + 2) (i + 3) (i + 4) refl (omega arith) (omega arith) (omega arith) h
+  one-more : areDigits (part text i 4) ≡ true → samplesIn (drop i text) ≡ signed16 (number (part text i 4)) ∷ samplesIn (drop j text)
+  one-more d = here ∙ ap (λ (t : Bool). sampleIf t (number (part text i 4)) (samplesIn (drop j text))) d
 
-    one-more : weightHere < 2 ^ 16 → samplesIn (drop i text) ≡ signed16 weightHere ∷ samplesIn (drop (i + 4) text)
-    unfolding samplesIn
-    one-more w = ap samplesIn here ∙ simp (four-digits _ _ _ _ w, four-number _ _ _ _ w)
+  no-more : areDigits (part text i 4) ≡ false → samplesIn (drop i text) ≡ []
+  no-more d = here ∙ ap (λ (t : Bool). sampleIf t (number (part text i 4)) (samplesIn (drop j text))) d
 
-    no-more : 2 ^ 16 ≤ weightHere → samplesIn (drop i text) ≡ []
-    unfolding samplesIn
-    no-more w = ap samplesIn here ∙ simp (four-none _ _ _ _ w)
-
--- of a text, the samples before the place i are `read`, which are n and stand in the first places of `now` that held `before`
-pub record Reached (text : List ℕ) (before now : List Float) (n i : ℕ) : Type 0 where
+-- of a text the first n samples are `read`, and stand in the first places of `now` that held `before`
+pub record Reached (text : List ℕ) (before now : List Float) (n : ℕ) : Type 0 where
   pub read : List ℤ
-  pub place : i ≡ 4 * n
-  pub within : i ≤ length text
+  pub within : n ≤ length text / 4
   pub count : length read ≡ n
-  pub so-far : samplesIn text ≡ read ++ samplesIn (drop i text)
+  pub so-far : samplesIn text ≡ read ++ samplesIn (drop (n * 4) text)
   pub lent : now ≡ over (map sampleOf read) before
 
 module _ (text : List ℕ) (before : List Float) where
-  pub starts : Reached text before before 0 0
+  pub starts : Reached text before before 0
   unfolding over
-  starts = record { read = []; place = refl; within = omega arith; count = refl; so-far = refl; lent = refl }
+  starts = record { read = []; within = omega arith; count = refl; so-far = refl; lent = refl }
 
-  module _ (now : List Float) (n i : ℕ) (r : Reached text before now n i) where
+  module _ (now : List Float) (n : ℕ) (r : Reached text before now n) where
     pub same-length : length now ≡ length before
     same-length = ap length (r .lent) ∙ length-over (map sampleOf (r .read)) before
 
     -- where the samples end, all are read
-    ended : samplesIn (drop i text) ≡ [] → ReadAs text before now n
+    ended : samplesIn (drop (n * 4) text) ≡ [] → ReadAs text before now n
     ended e =
         let all : r .read ≡ samplesIn text = sym (r .so-far ∙ ap (λ (xs : List ℤ). r .read ++ xs) e ∙ append-nil (r .read)) in
         record { count-is = sym (r .count) ∙ ap length all; lent-is = r .lent ∙ ap (λ (xs : List ℤ). over (map sampleOf xs) before) all }
 
-    pub ends : length text - i < 4 → ReadAs text before now n
-    ends h = ended (samples-short (drop i text) (omega (arith, length-drop i text)))
+    pub ends : length text / 4 ≤ n → ReadAs text before now n
+    ends h = ended (samples-short (drop (n * 4) text) (omega (arith, length-drop (n * 4) text)))
 
-    module _ (h : i + 4 ≤ length text) where
-      pub stops : 2 ^ 16 ≤ weightHere text i h → ReadAs text before now n
-      stops w = ended (no-more text i h w)
+    module _ (h : n < length text / 4) where
+      pub stops : areDigits (part text (n * 4) 4) ≡ false → ReadAs text before now n
+      stops d = ended (no-more text (n * 4) ((n + 1) * 4) (omega arith) (omega arith) d)
 
-      pub goes-on : (x : Float) → weightHere text i h < 2 ^ 16 → x ≡ sampleOf (signed16 (weightHere text i h)) → Reached text before (set now n x) (n + 1) (i + 4)
-      goes-on x w e =
-          let z = signed16 (weightHere text i h) in
+      pub goes-on : (x : Float) → areDigits (part text (n * 4) 4) ≡ true → x ≡ sampleOf (signed16 (number (part text (n * 4) 4))) → Reached text before (set now n x) (n + 1)
+      goes-on x d e =
+          let z = signed16 (number (part text (n * 4) 4)) in
+          let next = (n + 1) * 4 in
           record {
             read = r .read ++ z ∷ [];
-            place = omega (arith, r .place);
-            within = h;
+            within = omega arith;
             count = length-append (r .read) (z ∷ []) ∙ ap (λ (k : ℕ). k + 1) (r .count);
-            so-far = r .so-far ∙ ap (λ (xs : List ℤ). r .read ++ xs) (one-more text i h w) ∙ sym (append-assoc (r .read) (z ∷ []) (samplesIn (drop (i + 4) text)));
+            so-far = r .so-far ∙ ap (λ (xs : List ℤ). r .read ++ xs) (one-more text (n * 4) next (omega arith) (omega arith) d) ∙ sym (append-assoc (r .read) (z ∷ []) (samplesIn (drop next text)));
             lent =
                 (λ j. set (r .lent j) (count-of j) (e j))
                 ∙ sym (over-more (map sampleOf (r .read)) before (sampleOf z))

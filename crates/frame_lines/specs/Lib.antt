@@ -1,5 +1,5 @@
 pub mod Digits
-pub mod Weights
+pub mod Words
 pub mod Samples
 pub mod Line
 pub mod Parsed

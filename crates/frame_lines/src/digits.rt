@@ -1,300 +1,68 @@
-// Hexadecimal digits, lower case alone. What is no digit counts so much that no four characters with it make a number of four digits: one test tells.
+// Hexadecimal digits, lower case alone, told and read by arithmetic that the machine makes of many characters at once.
 ghost use mathlib.Core.Path.{_≡_};
-ghost use Prim.Native.Nat.{_+_, _*_};
-ghost use Rattle.frame_lines.specs.Weights.{allWeights, GoodTable, weight, pairWeight, fourWeight};
+ghost use mathlib.Core.Bool.{true};
+ghost use Prim.Native.Nat.{_+_, _≤_};
+ghost use lib.ListN.{length};
+ghost use Rattle.frame_lines.specs.Digits.{isDigit, digit, areDigits, number};
+ghost use Rattle.frame_lines.specs.Line.{part};
+ghost use Rattle.frame_lines.specs.Words.{wordOf};
 
-// What a character counts that is no digit: more than any four digits.
-pub const NO_DIGIT: u32 = 65536;
-
-// What each character counts.
-const WEIGHTS: [u32; 256] = [
-    65536,
-    65536,
-    65536,
-    65536,
-    65536,
-    65536,
-    65536,
-    65536,
-    65536,
-    65536,
-    65536,
-    65536,
-    65536,
-    65536,
-    65536,
-    65536,
-    65536,
-    65536,
-    65536,
-    65536,
-    65536,
-    65536,
-    65536,
-    65536,
-    65536,
-    65536,
-    65536,
-    65536,
-    65536,
-    65536,
-    65536,
-    65536,
-    65536,
-    65536,
-    65536,
-    65536,
-    65536,
-    65536,
-    65536,
-    65536,
-    65536,
-    65536,
-    65536,
-    65536,
-    65536,
-    65536,
-    65536,
-    65536,
-    0,
-    1,
-    2,
-    3,
-    4,
-    5,
-    6,
-    7,
-    8,
-    9,
-    65536,
-    65536,
-    65536,
-    65536,
-    65536,
-    65536,
-    65536,
-    65536,
-    65536,
-    65536,
-    65536,
-    65536,
-    65536,
-    65536,
-    65536,
-    65536,
-    65536,
-    65536,
-    65536,
-    65536,
-    65536,
-    65536,
-    65536,
-    65536,
-    65536,
-    65536,
-    65536,
-    65536,
-    65536,
-    65536,
-    65536,
-    65536,
-    65536,
-    65536,
-    65536,
-    65536,
-    65536,
-    65536,
-    65536,
-    10,
-    11,
-    12,
-    13,
-    14,
-    15,
-    65536,
-    65536,
-    65536,
-    65536,
-    65536,
-    65536,
-    65536,
-    65536,
-    65536,
-    65536,
-    65536,
-    65536,
-    65536,
-    65536,
-    65536,
-    65536,
-    65536,
-    65536,
-    65536,
-    65536,
-    65536,
-    65536,
-    65536,
-    65536,
-    65536,
-    65536,
-    65536,
-    65536,
-    65536,
-    65536,
-    65536,
-    65536,
-    65536,
-    65536,
-    65536,
-    65536,
-    65536,
-    65536,
-    65536,
-    65536,
-    65536,
-    65536,
-    65536,
-    65536,
-    65536,
-    65536,
-    65536,
-    65536,
-    65536,
-    65536,
-    65536,
-    65536,
-    65536,
-    65536,
-    65536,
-    65536,
-    65536,
-    65536,
-    65536,
-    65536,
-    65536,
-    65536,
-    65536,
-    65536,
-    65536,
-    65536,
-    65536,
-    65536,
-    65536,
-    65536,
-    65536,
-    65536,
-    65536,
-    65536,
-    65536,
-    65536,
-    65536,
-    65536,
-    65536,
-    65536,
-    65536,
-    65536,
-    65536,
-    65536,
-    65536,
-    65536,
-    65536,
-    65536,
-    65536,
-    65536,
-    65536,
-    65536,
-    65536,
-    65536,
-    65536,
-    65536,
-    65536,
-    65536,
-    65536,
-    65536,
-    65536,
-    65536,
-    65536,
-    65536,
-    65536,
-    65536,
-    65536,
-    65536,
-    65536,
-    65536,
-    65536,
-    65536,
-    65536,
-    65536,
-    65536,
-    65536,
-    65536,
-    65536,
-    65536,
-    65536,
-    65536,
-    65536,
-    65536,
-    65536,
-    65536,
-    65536,
-    65536,
-    65536,
-    65536,
-    65536,
-    65536,
-    65536,
-    65536,
-    65536,
-    65536,
-    65536,
-    65536,
-    65536,
-    65536,
-    65536,
-    65536,
-    65536,
-    65536,
-    65536,
-    65536,
-    65536,
-    65536,
-    65536,
-    65536,
-    65536,
-    65536,
-    65536,
-    65536,
-];
-
-// The table as a local array, which is made once for a line: an element of the constant itself would be read from a copy made for it.
-pub fn weights() -> [u32; 256]
-    ensures { λ r. ⌜ r ≡ allWeights ⌝ }
+// Whether a character is a digit: four comparisons with no branch between them.
+fn is_digit(c: u8) -> bool
+    ensures { λ r. ⌜ r ≡ isDigit c ⌝ }
 {
-    WEIGHTS
+    let decimal = (b'0' <= c) & (c <= b'9');
+    let letter = (b'a' <= c) & (c <= b'f');
+    decimal | letter
 }
 
-fn weight_of(table: &[u32; 256], c: u8) -> u32
-    requires { ⌜ GoodTable (now table) ⌝ }
-    ensures { λ r. ⌜ r ≡ weight c ⌝ }
+// Whether a text has digits alone. The first that is none does not end the loop: so no branch stands in it.
+pub fn all_digits(text: &[u8]) -> bool
+    ensures { λ r. ⌜ r ≡ areDigits (now (text .entry)) ⌝ }
 {
-    table[c as usize]
+    let mut so_far = true;
+    let mut i = 0;
+    while i < text.len() {
+        so_far = so_far & is_digit(text[i]);
+        i += 1;
+    }
+    so_far
 }
 
-// What four characters count: below 65536 exactly if they are digits, and then their number.
-pub fn weight_of_four(table: &[u32; 256], a: u8, b: u8, c: u8, d: u8) -> u32
-    requires { ⌜ GoodTable (now table) ⌝ }
-    ensures { λ r. ⌜ r ≡ fourWeight a b c d ⌝ }
+// What a digit counts: its lowest four bits, and 9 more for a letter.
+fn digit_of(c: u8) -> u32
+    requires { ⌜ isDigit c ≡ true ⌝ }
+    ensures { λ r. ⌜ r ≡ digit c ⌝ }
 {
-    weight_of(table, a) * 4096
-        + weight_of(table, b) * 256
-        + weight_of(table, c) * 16
-        + weight_of(table, d)
+    (c as u32) % 16 + (c as u32) / 64 * 9
 }
 
-// What two characters count, by the same rule below 256.
-pub fn weight_of_two(table: &[u32; 256], a: u8, b: u8) -> u32
-    requires { ⌜ GoodTable (now table) ⌝ }
-    ensures { λ r. ⌜ r ≡ pairWeight a b ⌝ }
+// The number of two digits from a place on.
+pub fn number_of_two(text: &[u8], at: usize) -> u8
+    requires { ⌜ (at + 2 ≤ length (now text)) × (areDigits (part (now text) at 2) ≡ true) ⌝ }
+    ensures { λ r. ⌜ r ≡ number (part (now (text .entry)) at 2) ⌝ }
 {
-    weight_of(table, a) * 16 + weight_of(table, b)
+    (digit_of(text[at]) * 16 + digit_of(text[at + 1])) as u8
+}
+
+// Four characters as one word, the first in its lowest byte. A function of its own, and so one read of the word for the machine.
+fn word_of(text: &[u8], at: usize) -> u32
+    requires { ⌜ at + 4 ≤ length (now text) ⌝ }
+    ensures { λ r. ⌜ r ≡ wordOf (part (now (text .entry)) at 4) ⌝ }
+{
+    (text[at] as u32)
+        + (text[at + 1] as u32) * 256
+        + (text[at + 2] as u32) * 65536
+        + (text[at + 3] as u32) * 16777216
+}
+
+// The number of four digits from a place on: each byte of their word becomes what its digit counts, all at once, and then each two are joined.
+pub fn number_of_four(text: &[u8], at: usize) -> u32
+    requires { ⌜ (at + 4 ≤ length (now text)) × (areDigits (part (now text) at 4) ≡ true) ⌝ }
+    ensures { λ r. ⌜ r ≡ number (part (now (text .entry)) at 4) ⌝ }
+{
+    let word = word_of(text, at);
+    let values = (word & 0x0f0f_0f0f) + (word & 0x4040_4040) / 64 * 9;
+    let pairs = values * 16 + values / 256;
+    pairs % 256 * 256 + pairs / 65536 % 256
 }

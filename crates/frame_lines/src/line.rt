@@ -1,15 +1,15 @@
 // A frame line, taken apart. The samples go into a slice that the caller lends, each decoded once, straight to its place.
 ghost use mathlib.Core.Path.{_≡_};
-ghost use Prim.Native.Nat.{_+_, _≤_, _<_, _^_};
+ghost use mathlib.Core.Bool.{true};
+ghost use Prim.Native.Nat.{_+_, _/_, _≤_, _<_, _^_};
 ghost use lib.ListN.{length, set};
-ghost use Rattle.frame_lines.specs.Weights.{GoodTable};
+ghost use Rattle.frame_lines.specs.Digits.{areDigits};
 ghost use Rattle.frame_lines.specs.Samples.{signed16};
 ghost use Rattle.frame_lines.specs.Parsed.{sampleOf, ParsedAs};
 ghost use Rattle.frame_lines.specs.Reading.{wordAt, levelField, headOf, ReadAs};
-use crate::digits::NO_DIGIT;
-use crate::digits::weight_of_four;
-use crate::digits::weight_of_two;
-use crate::digits::weights;
+use crate::digits::all_digits;
+use crate::digits::number_of_four;
+use crate::digits::number_of_two;
 use mono_input_volume_controller::speech_level::SpeechLevel;
 
 // A longer line is malformed.
@@ -50,30 +50,19 @@ enum Head {
 }
 
 // Eight digits from a place on.
-fn word_at(table: &[u32; 256], line: &[u8], at: usize) -> Word
-    requires { ⌜ GoodTable (now table) × (at + 8 ≤ length (now line)) ⌝ }
+fn word_at(line: &[u8], at: usize) -> Word
+    requires { ⌜ at + 8 ≤ length (now line) ⌝ }
     ensures { λ r. ⌜ r ≡ wordAt (now (line .entry)) at ⌝ }
 {
-    let high = weight_of_four(table, line[at], line[at + 1], line[at + 2], line[at + 3]);
-    if high >= NO_DIGIT {
+    if !all_digits(&line[at..at + 8]) {
         return Word::Malformed;
     }
-    let low = weight_of_four(
-        table,
-        line[at + 4],
-        line[at + 5],
-        line[at + 6],
-        line[at + 7],
-    );
-    if low >= NO_DIGIT {
-        return Word::Malformed;
-    }
-    Word::Number(high * 65536 + low)
+    Word::Number(number_of_four(line, at) * 65536 + number_of_four(line, at + 4))
 }
 
 // The level, and the blank behind it.
-fn level_field(table: &[u32; 256], line: &[u8]) -> Level
-    requires { ⌜ GoodTable (now table) × (14 ≤ length (now line)) ⌝ }
+fn level_field(line: &[u8]) -> Level
+    requires { ⌜ 14 ≤ length (now line) ⌝ }
     ensures { λ r. ⌜ r ≡ levelField (now (line .entry)) ⌝ }
 {
     if line[12] == b'-' {
@@ -88,7 +77,7 @@ fn level_field(table: &[u32; 256], line: &[u8]) -> Level
     if line[20] != b' ' {
         return Level::Malformed;
     }
-    let bits = word_at(table, line, 12);
+    let bits = word_at(line, 12);
     let Word::Number(n) = bits else {
         return Level::Malformed;
     };
@@ -96,34 +85,33 @@ fn level_field(table: &[u32; 256], line: &[u8]) -> Level
 }
 
 // All fields before the samples. No line in order is shorter than up to the blank behind a dash.
-fn read_head(table: &[u32; 256], line: &[u8]) -> Head
-    requires { ⌜ GoodTable (now table) ⌝ }
+fn read_head(line: &[u8]) -> Head
     ensures { λ r. ⌜ r ≡ headOf (now (line .entry)) ⌝ }
 {
     if line.len() < AFTER_DASH {
         return Head::Malformed;
     }
-    let volume = weight_of_two(table, line[0], line[1]);
-    if volume >= 256 {
+    if !all_digits(&line[0..2]) {
         return Head::Malformed;
     }
+    let volume = number_of_two(line, 0);
     if line[2] != b' ' {
         return Head::Malformed;
     }
     if line[11] != b' ' {
         return Head::Malformed;
     }
-    let bits = word_at(table, line, 3);
+    let bits = word_at(line, 3);
     let Word::Number(n) = bits else {
         return Head::Malformed;
     };
     let probability = levels::bits::from_bits(n);
-    let level = level_field(table, line);
+    let level = level_field(line);
     match level {
         Level::Malformed => Head::Malformed,
-        Level::Dash => Head::Fields(volume as u8, probability, SpeechLevel::Absent, AFTER_DASH),
+        Level::Dash => Head::Fields(volume, probability, SpeechLevel::Absent, AFTER_DASH),
         Level::Bits(b) => Head::Fields(
-            volume as u8,
+            volume,
             probability,
             SpeechLevel::Dbfs(levels::bits::from_bits(b)),
             AFTER_BITS,
@@ -150,23 +138,49 @@ fn put(samples: &mut [f32], n: usize, x: f32)
     }
 }
 
-// The samples of a text, as far as it goes by fours of digits, and how many they are.
-fn read_samples(table: &[u32; 256], text: &[u8], samples: &mut [f32]) -> usize
-    requires { ⌜ GoodTable (now table) ⌝ }
+// The samples of a text of digits alone, where there is room for all: no test is left between them.
+fn read_digits(text: &[u8], samples: &mut [f32]) -> usize
+    requires { ⌜ (areDigits (now text) ≡ true) × (length (now text) / 4 ≤ length (now samples)) ⌝ }
     ensures { λ r. ⌜ ReadAs (now (text .entry)) (now (samples .entry)) (now (samples .exit)) r ⌝ }
 {
+    let count = text.len() / 4;
     let mut n = 0;
-    let mut at = 0;
-    while 4 <= text.len() - at {
-        let bits = weight_of_four(table, text[at], text[at + 1], text[at + 2], text[at + 3]);
-        if bits >= NO_DIGIT {
-            return n;
-        }
-        put(samples, n, sample(bits));
+    while n < count {
+        let at = n * 4;
+        samples[n] = sample(number_of_four(text, at));
         n += 1;
-        at += 4;
     }
     n
+}
+
+// The samples of any text, as far as it goes by fours of digits, and how many they are.
+fn read_tested(text: &[u8], samples: &mut [f32]) -> usize
+    ensures { λ r. ⌜ ReadAs (now (text .entry)) (now (samples .entry)) (now (samples .exit)) r ⌝ }
+{
+    let count = text.len() / 4;
+    let mut n = 0;
+    while n < count {
+        let at = n * 4;
+        if !all_digits(&text[at..at + 4]) {
+            return n;
+        }
+        put(samples, n, sample(number_of_four(text, at)));
+        n += 1;
+    }
+    n
+}
+
+// The same, by the shorter way where the text has digits alone and there is room for all.
+fn read_samples(text: &[u8], samples: &mut [f32]) -> usize
+    ensures { λ r. ⌜ ReadAs (now (text .entry)) (now (samples .entry)) (now (samples .exit)) r ⌝ }
+{
+    if samples.len() < text.len() / 4 {
+        return read_tested(text, samples);
+    }
+    if all_digits(text) {
+        return read_digits(text, samples);
+    }
+    read_tested(text, samples)
 }
 
 // A line, without its line feed. Its samples become the first of the lent slice, as far as that has room; those of a malformed line as far
@@ -177,13 +191,12 @@ pub fn parse(line: &[u8], samples: &mut [f32]) -> Parsed
     if line.len() > MOST_CHARACTERS {
         return Parsed::Malformed;
     }
-    let table = weights();
-    let fields = read_head(&table, line);
+    let fields = read_head(line);
     let Head::Fields(volume, probability, level, start) = fields else {
         return Parsed::Malformed;
     };
     let text = &line[start..];
-    let n = read_samples(&table, text, samples);
+    let n = read_samples(text, samples);
     if n * 4 < text.len() {
         return Parsed::Malformed;
     }

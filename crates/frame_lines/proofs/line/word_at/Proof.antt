@@ -1,107 +1,80 @@
--- `frame_lines::line::word_at` meets its contract: each half is weighed. Assumes nothing.
-use mathlib.Core.Path.{_∙_}
+-- `frame_lines::line::word_at` meets its contract: eight digits are two fours. Assumes nothing.
+use mathlib.Core.Path.{_≡_, sym, ap, _∙_}
+use mathlib.Core.Bool.{true}
 use Prim.Native.Nat.{_+_, _*_}
 use native.Mathlib.Omega.{arith}
+use borrow.Author.Tests.{not-true, not-false}
 use Rattle.frame_lines.specs.declared.line.Word.the-variants.{Number}
-use Rattle.frame_lines.proofs.Parts.{word-high, word-low, word-both}
+use Rattle.frame_lines.specs.Digits.{areDigits}
+use Rattle.frame_lines.specs.Line.{part}
+use Rattle.frame_lines.proofs.Tests.{Both}
+use Rattle.frame_lines.proofs.Parts.{part-four, lent-part, halves-digits, word-lost, word-kept}
+use Rattle.frame_lines.proofs.Counted.{four-below}
 use borrow.Author.Needs.{needs}
 use Rattle.frame_lines.proofs.line.word_at.Statement.{statement}
 use Rattle.frame_lines.proofs.line.word_at.Tie as tie
 
-shared-slice-read-weight-of-four : tie.Need-shared-slice-read-weight-of-four
-shared-slice-read-weight-of-four c = search needs
+told : (c : tie.After-all-digits) → areDigits (part (c .before .before .before .args .line .now) (c .before .before .before .args .at) 8) ≡ c .all-digits .result
+told c = let s = c .before .before .before .args in ap areDigits (sym (lent-part (s .line .now) (s .at) 8)) ∙ sym (c .all-digits .ensures)
 
-add-weight-of-four : tie.Need-add-weight-of-four
-add-weight-of-four c = search needs
+eight : (c : tie.Else1) → areDigits (part (c .before .before .before .before .args .line .now) (c .before .before .before .before .args .at) 8) ≡ true
+eight c = told (c .before) ∙ not-false (c .before .all-digits .result) (c .if1 .left)
 
-shared-slice-read-weight-of-four-2 : tie.Need-shared-slice-read-weight-of-four-2
-shared-slice-read-weight-of-four-2 c = search needs
+halves : (c : tie.Else1) → let s = c .before .before .before .before .args in Both (areDigits (part (s .line .now) (s .at) 4)) (areDigits (part (s .line .now) (s .at + 4) 4))
+halves c = let s = c .before .before .before .before .args in halves-digits (s .line .now) (s .at) (eight c)
 
-add-weight-of-four-2 : tie.Need-add-weight-of-four-2
-add-weight-of-four-2 c = search needs
+add-all-digits : tie.Need-add-all-digits
+add-all-digits c = search needs
 
-shared-slice-read-weight-of-four-3 : tie.Need-shared-slice-read-weight-of-four-3
-shared-slice-read-weight-of-four-3 c = search needs
+sub-all-digits : tie.Need-sub-all-digits
+sub-all-digits c = search needs
 
-add-weight-of-four-3 : tie.Need-add-weight-of-four-3
-add-weight-of-four-3 c = search needs
+part-all-digits-start : tie.Need-part-all-digits-start
+part-all-digits-start c = search needs
 
-shared-slice-read-weight-of-four-4 : tie.Need-shared-slice-read-weight-of-four-4
-shared-slice-read-weight-of-four-4 c = search needs
+part-all-digits-end : tie.Need-part-all-digits-end
+part-all-digits-end c = search needs
 
-weight-of-four-requires : tie.Need-weight-of-four-requires
-weight-of-four-requires c κs = search needs
+all-digits-requires : tie.Need-all-digits-requires
+all-digits-requires c κs = search needs
 
 returns : tie.Need-returns
-returns c = let s = c .before .before .before .before .before .before .before in word-high (s .args .line .now) (s .args .at) (s .pre .1) (omega (arith, c .before .weight-of-four .ensures))
+returns c = word-lost _ _ (told (c .before) ∙ not-true (c .before .all-digits .result) (c .if1 .taken))
 
-add-weight-of-four-4 : tie.Need-add-weight-of-four-4
-add-weight-of-four-4 c = search needs
+number-of-four-requires : tie.Need-number-of-four-requires
+number-of-four-requires c κs = (omega arith, halves c .first)
 
-shared-slice-read-weight-of-four-5 : tie.Need-shared-slice-read-weight-of-four-5
-shared-slice-read-weight-of-four-5 c = search needs
+mul-t11 : tie.Need-mul-t11
+mul-t11 c = let s = c .before .before .before .before .before .args in omega (arith, c .number-of-four .ensures, four-below (part-four (s .line .now) (s .at) (omega arith)) (halves (c .before) .first))
 
-add-weight-of-four-5 : tie.Need-add-weight-of-four-5
-add-weight-of-four-5 c = search needs
+add-number-of-four : tie.Need-add-number-of-four
+add-number-of-four c = search needs
 
-shared-slice-read-weight-of-four-6 : tie.Need-shared-slice-read-weight-of-four-6
-shared-slice-read-weight-of-four-6 c = search needs
+number-of-four-requires-2 : tie.Need-number-of-four-requires-2
+number-of-four-requires-2 c κs = (omega arith, halves (c .before) .second)
 
-add-weight-of-four-6 : tie.Need-add-weight-of-four-6
-add-weight-of-four-6 c = search needs
-
-shared-slice-read-weight-of-four-7 : tie.Need-shared-slice-read-weight-of-four-7
-shared-slice-read-weight-of-four-7 c = search needs
-
-add-weight-of-four-7 : tie.Need-add-weight-of-four-7
-add-weight-of-four-7 c = search needs
-
-shared-slice-read-weight-of-four-8 : tie.Need-shared-slice-read-weight-of-four-8
-shared-slice-read-weight-of-four-8 c = search needs
-
-weight-of-four-requires-2 : tie.Need-weight-of-four-requires-2
-weight-of-four-requires-2 c κs = search needs
+add-t13 : tie.Need-add-t13
+add-t13 c =
+    let s = c .before .before .before .before .before .before .args in
+    let h = halves (c .before .before) in
+    omega (arith, c .before .number-of-four .ensures, c .number-of-four2 .ensures, four-below (part-four (s .line .now) (s .at) (omega arith)) (h .first), four-below (part-four (s .line .now) (s .at + 4) (omega arith)) (h .second))
 
 returns-2 : tie.Need-returns-2
-returns-2 c = let s = c .before .before .before .before .before .before .before .before .before .before .before .before .before in word-low (s .args .line .now) (s .args .at) (s .pre .1) (omega (arith, c .before .weight-of-four2 .ensures))
-
-mul-t23 : tie.Need-mul-t23
-mul-t23 c = search needs
-
-add-t24 : tie.Need-add-t24
-add-t24 c = search needs
-
-returns-3 : tie.Need-returns-3
-returns-3 c =
-    let s = c .before .before .before .before .before .before .before .before .before .before .before .before .before in
-    let h = c .before .before .before .before .before .before .before .weight-of-four in
-    let l = c .before .weight-of-four2 in
-    (λ i. Number (h .ensures i * 65536 + l .ensures i))
-    ∙ word-both (s .args .line .now) (s .args .at) (s .pre .1) (omega (arith, h .ensures)) (omega (arith, l .ensures))
+returns-2 c = (λ i. Number (c .before .number-of-four .ensures i * 65536 + c .number-of-four2 .ensures i)) ∙ word-kept _ _ (c .before .before .before .before .before .before .pre) (eight (c .before .before))
 
 pub word-at-spec : {M : Type 1} → statement M
 word-at-spec =
     tie.close
     (tie.spec
-    shared-slice-read-weight-of-four
-    add-weight-of-four
-    shared-slice-read-weight-of-four-2
-    add-weight-of-four-2
-    shared-slice-read-weight-of-four-3
-    add-weight-of-four-3
-    shared-slice-read-weight-of-four-4
-    weight-of-four-requires
+    add-all-digits
+    sub-all-digits
+    part-all-digits-start
+    part-all-digits-end
+    all-digits-requires
     returns
-    add-weight-of-four-4
-    shared-slice-read-weight-of-four-5
-    add-weight-of-four-5
-    shared-slice-read-weight-of-four-6
-    add-weight-of-four-6
-    shared-slice-read-weight-of-four-7
-    add-weight-of-four-7
-    shared-slice-read-weight-of-four-8
-    weight-of-four-requires-2
-    returns-2
-    mul-t23
-    add-t24
-    returns-3)
+    number-of-four-requires
+    mul-t11
+    add-number-of-four
+    number-of-four-requires-2
+    add-t13
+    returns-2)

@@ -1,4 +1,4 @@
--- `frame_lines::lines::passed` meets its contract: eight bytes at a turn. Assumes nothing.
+-- `frame_lines::lines::passed` meets its contract: 64 bytes at a turn. Assumes nothing.
 use mathlib.Core.Path.{_≡_, refl, _∙_}
 use Prim.Native.Nat.{_-_}
 use borrow.Author.Needs.{needs}
@@ -22,8 +22,8 @@ sub-if1 c = search needs
 returns : tie.Need-returns Inv-loop μ-loop
 returns c = search needs
 
-feed-in-eight-requires : tie.Need-feed-in-eight-requires Inv-loop μ-loop
-feed-in-eight-requires c κs = search needs
+feed-in-next-requires : tie.Need-feed-in-next-requires Inv-loop μ-loop
+feed-in-next-requires c κs = search needs
 
 returns-2 : tie.Need-returns-2 Inv-loop μ-loop
 returns-2 c = search needs
@@ -35,7 +35,7 @@ loop-less : tie.Need-loop-less Inv-loop μ-loop
 loop-less c = search needs
 
 loop-again : tie.Need-loop-again Inv-loop μ-loop
-loop-again c = c .before .feed-in-eight .ensures (c .if2 .left) ∙ c .before .before .before .before .loop .inv
+loop-again c = c .before .feed-in-next .ensures (c .if2 .left) ∙ c .before .before .before .before .loop .inv
 
 returns-3 : tie.Need-returns-3 Inv-loop μ-loop
 returns-3 c = search needs
@@ -49,7 +49,7 @@ passed-spec =
     loop-holds
     sub-if1
     returns
-    feed-in-eight-requires
+    feed-in-next-requires
     returns-2
     add-i
     loop-less
