@@ -5,7 +5,7 @@ use mathlib.Core.List.{List, [], _∷_}
 use mathlib.Core.Option.{none, some}
 use Prim.Native.Nat.{ℕ, _+_, max, zero-le}
 use native.Mathlib.Omega.{arith}
-use lib.Dec.{leb, ltb}
+use lib.Dec.{leb, ltb, eqb}
 use lib.IntN.{ℤ, pos, negsuc}
 use lib.Signed.{ltZ}
 use lib.Ieee.{Float}
@@ -18,11 +18,12 @@ use Rattle.numbers.specs.Said.{refusalIn, outcomeSays}
 use Rattle.gain_map.specs.VolumeUpdate.{updateSays, reached, walk, stepped, volumeUpdateOf}
 use Rattle.clipping_predictor_level_buffer.specs.declared.level.Level.{Level}
 use Rattle.clipping_predictor_level_buffer.specs.declared.Metrics.{Metrics}
-use Rattle.clipping_predictor_level_buffer.specs.Level.{maxSamplesPerChannel, measuredSays, measuredIf, measureOf}
+use Rattle.clipping_predictor_level_buffer.specs.Level.{maxSamplesPerChannel, measuredSays, measuredIf, measureOf, measuredTwoSays, measuredTwoIf, measureTwoOf}
 use Rattle.clipping_predictor_level_buffer.specs.Making as Ring
 use Rattle.clipping_predictor_level_buffer.specs.Ring.{maxCapacity}
 use Rattle.clipping_predictor_level_buffer.specs.Metrics.{metricsSays, foundIf, metricsIf, partialMetrics, computePartialMetrics}
 use Rattle.clipping_predictor.specs.Predictor.{Predictor, frameFits, outcomeIf, enteredIf}
+use Rattle.clipping_predictor.specs.FrameLevels.{measuringIf, measuringOf}
 use Rattle.mono_input_volume_controller.specs.declared.speech_level.SpeechLevel.{SpeechLevel}
 use Rattle.mono_input_volume_controller.specs.declared.speech_level.RmsError.{RmsError}
 use Rattle.mono_input_volume_controller.specs.declared.speech_level.RmsError.the-variants.{NoError, Db}
@@ -30,7 +31,7 @@ use Rattle.mono_input_volume_controller.specs.SpeechLevel.{lowestDb, highestDb,
 use Rattle.mono_input_volume_controller.specs.Config.{bothInRange}
 use Rattle.mono_input_volume_controller.specs.SpeechError.{speechErrorSays, errorIfInRange, speechErrorOf}
 use Rattle.claims.specs.Causes.{Cause, firstOf}
-use Rattle.claims.specs.RefusedBelow.{volumeStepCauses, predictorFrameCauses, levelCauses, ringCauses, metricsCauses, targetCauses, RefusedBelow}
+use Rattle.claims.specs.RefusedBelow.{volumeStepCauses, predictorFrameCauses, levelCauses, twoLevelsCauses, frameLevelsCauses, ringCauses, metricsCauses, targetCauses, RefusedBelow}
 use Rattle.claims.proofs.Causes.{less-is, above-is, either, or-true, one-outside-is, isOutside, within-is, misfit-is}
 use Rattle.claims.proofs.BelowMaking.{predictor-first, predictor-beside}
 use Rattle.claims.proofs.BelowEstimates.{estimate-first}
@@ -76,6 +77,10 @@ outcome-same : (t : Bool) (p : Predictor) (samples : ℕ) (lent : List Float) (n
 outcome-same true p samples lent number e = let z : _≡_ {A = ℕ} 0 1 = cc in absurd (omega arith)
 outcome-same false p samples lent number e = refl
 
+-- a number outside its range
+out-of : (low high n : ℕ) → (ltb n low || ltb high n) ≡ not (leb low n && leb n high)
+out-of low high n = (λ i. less-is low n i || less-is n high i) ∙ either (leb low n) (leb n high)
+
 measured-first : (t : Bool) (samples : List Float) → refusalIn (measuredSays (measuredIf t samples)) ≡ firstOf (only 9 (not t))
 measured-first true samples = refl
 measured-first false samples = refl
@@ -84,8 +89,33 @@ level-first : (samples : List Float) → refusalIn (measuredSays (measureOf samp
 unfolding measureOf
 level-first samples =
     let n = length samples in
-    measured-first (leb 1 n && leb n maxSamplesPerChannel) samples
-    ∙ ap (λ (t : Bool). firstOf (only 9 t)) (sym ((λ i. less-is 1 n i || less-is n 480 i) ∙ either (leb 1 n) (leb n 480)))
+    measured-first (leb 1 n && leb n maxSamplesPerChannel) samples ∙ ap (λ (t : Bool). firstOf (only 9 t)) (sym (out-of 1 480 n))
+
+two-measured-first : (t : Bool) (first second : List Float) → refusalIn (measuredTwoSays (measuredTwoIf t first second)) ≡ firstOf (only 9 (not t))
+two-measured-first true first second = refl
+two-measured-first false first second = refl
+
+two-levels-first : (first second : List Float) → refusalIn (measuredTwoSays (measureTwoOf first second)) ≡ firstOf (twoLevelsCauses first second)
+unfolding measureTwoOf
+two-levels-first first second =
+    let n = length first in
+    let same = eqb n (length second) in
+    two-measured-first ((leb 1 n && leb n maxSamplesPerChannel) && same) first second
+    ∙ ap (λ (t : Bool). firstOf (only 9 t)) (sym (ap (λ (t : Bool). t || not same) (out-of 1 480 n) ∙ either (leb 1 n && leb n 480) same))
+
+abbrev oneNine : Bool → Bool → List Cause
+oneNine a b = record { number = 1; holds = a } ∷ only 9 b
+
+measuring-first : (a b : Bool) → refusalIn (outcomeSays (measuringIf a b)) ≡ firstOf (oneNine (not a) (not b))
+measuring-first true true = refl
+measuring-first true false = refl
+measuring-first false b = refl
+
+frame-levels-first : (channels samples : ℕ) (lent : List Float) → refusalIn (outcomeSays (measuringOf channels samples lent)) ≡ firstOf (frameLevelsCauses channels samples lent)
+unfolding measuringOf
+frame-levels-first channels samples lent =
+    measuring-first (leb 1 channels && leb channels 8) (frameFits channels samples lent)
+    ∙ (λ i. firstOf (oneNine (sym (out-of 1 8 channels) i) (sym (misfit-is channels samples lent) i)))
 
 -- ---- the ring
 
@@ -143,6 +173,8 @@ refused-below = record {
   unchanged = λ p channels samples lent number e. outcome-same (frameFits channels samples lent) p samples lent number e;
   estimate = estimate-first;
   level = level-first;
+  two-levels = two-levels-first;
+  frame-levels = frame-levels-first;
   ring-making = ring-first;
   metrics = metrics-first;
   speech-error = speech-error-first;

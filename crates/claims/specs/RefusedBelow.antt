@@ -1,7 +1,7 @@
 -- The calls of the crates below the controller say no by the same table: each is refused with the number of the first cause about its inputs that holds. Document 01, "What a call can say no to",
 -- with what stands under the table of causes 7, 8 and 10, and document 02 (ii). None of these calls has a state but the predictor's, which a refused frame leaves as before.
--- It reaches the code by the contracts of `compute_volume_update` (gain_map), `create_clipping_predictor`, `ClippingPredictor::{analyze, estimate_clipped_level_step}` (clipping_predictor),
--- `level::measure` and `ClippingPredictorLevelBuffer::{new, compute_partial_metrics}` (clipping_predictor_level_buffer) and `get_speech_level_rms_error_db` (mono_input_volume_controller): each
+-- It reaches the code by the contracts of `compute_volume_update` (gain_map), `create_clipping_predictor`, `ClippingPredictor::{analyze, estimate_clipped_level_step}` and `measuring::measure_channels` (clipping_predictor),
+-- `level::{measure, measure_two}` and `ClippingPredictorLevelBuffer::{new, compute_partial_metrics}` (clipping_predictor_level_buffer) and `get_speech_level_rms_error_db` (mono_input_volume_controller): each
 -- says that the answer's number and values are those of the definition that is named here. Definitions only.
 use mathlib.Core.Path.{_≡_}
 use mathlib.Core.Bool.{not, _||_}
@@ -16,11 +16,12 @@ use lib.ListN.{length}
 use Rattle.numbers.specs.Said.{refused, refusalIn, outcomeSays}
 use Rattle.gain_map.specs.VolumeUpdate.{updateSays, volumeUpdateOf}
 use Rattle.clipping_predictor_level_buffer.specs.declared.level.Level.{Level}
-use Rattle.clipping_predictor_level_buffer.specs.Level.{measuredSays, measureOf}
+use Rattle.clipping_predictor_level_buffer.specs.Level.{measuredSays, measureOf, measuredTwoSays, measureTwoOf}
 use Rattle.clipping_predictor_level_buffer.specs.Making as Ring
 use Rattle.clipping_predictor_level_buffer.specs.Metrics.{metricsSays, computePartialMetrics}
 use Rattle.clipping_predictor.specs.declared.settings.ClippingPredictorConfig.{ClippingPredictorConfig}
 use Rattle.clipping_predictor.specs.Predictor.{Predictor, unmadeSettings, emptyPredictor, makingOf, frameFits, outcomeIf, enteredIf}
+use Rattle.clipping_predictor.specs.FrameLevels.{measuringOf}
 use Rattle.clipping_predictor.specs.EstimateCall.{argumentsOf, estimateSays, estimateOf}
 use Rattle.mono_input_volume_controller.specs.declared.speech_level.SpeechLevel.{SpeechLevel}
 use Rattle.mono_input_volume_controller.specs.SpeechError.{speechErrorSays, speechErrorOf}
@@ -53,6 +54,14 @@ estimateCauses channels channel level step min max =
 abbrev pub levelCauses : List Float → List Cause
 levelCauses samples = record { number = 9; holds = ltb (length samples) 1 || ltb 480 (length samples) } ∷ []
 
+-- the same of two channels of a frame, which has as many samples of each
+abbrev pub twoLevelsCauses : List Float → List Float → List Cause
+twoLevelsCauses first second = record { number = 9; holds = (ltb (length first) 1 || ltb 480 (length first)) || not (eqb (length first) (length second)) } ∷ []
+
+-- "channel count not 1 to 8", and then those of a frame
+abbrev pub frameLevelsCauses : ℕ → ℕ → List Float → List Cause
+frameLevelsCauses channels samples lent = record { number = 1; holds = ltb channels 1 || ltb 8 channels } ∷ predictorFrameCauses channels samples lent
+
 -- "capacity above 64"
 abbrev pub ringCauses : ℤ → List Cause
 ringCauses capacity = record { number = 11; holds = ltZ (pos 64) capacity } ∷ []
@@ -78,6 +87,8 @@ pub record RefusedBelow : Type 0 where
   pub estimate : (p : Predictor) (channels : ℕ) (channel level step min max : ℤ) → 1 ≤ channels
       → refusalIn (estimateSays (estimateOf p (argumentsOf channels channel level step min max))) ≡ firstOf (estimateCauses channels channel level step min max)
   pub level : (samples : List Float) → refusalIn (measuredSays (measureOf samples)) ≡ firstOf (levelCauses samples)
+  pub two-levels : (first second : List Float) → refusalIn (measuredTwoSays (measureTwoOf first second)) ≡ firstOf (twoLevelsCauses first second)
+  pub frame-levels : (channels samples : ℕ) (lent : List Float) → refusalIn (outcomeSays (measuringOf channels samples lent)) ≡ firstOf (frameLevelsCauses channels samples lent)
   pub ring-making : (capacity : ℤ) → refusalIn (outcomeSays (Ring.makingOf (Ring.capacityOf capacity))) ≡ firstOf (ringCauses capacity)
   pub metrics : (capacity : ℕ) (stored : List Level) (delay items : ℤ) → refusalIn (metricsSays (computePartialMetrics capacity stored delay items)) ≡ firstOf (metricsCauses capacity delay items)
   pub speech-error : (level : SpeechLevel) (min max : ℤ) → refusalIn (speechErrorSays (speechErrorOf level min max)) ≡ firstOf (targetCauses min max)
