@@ -3,10 +3,11 @@ use mathlib.Core.Path.{_≡_, refl, sym, ap, subst, _∙_}
 use mathlib.Core.Bool.{Bool}
 use mathlib.Core.List.{List}
 use mathlib.Core.Option.{none, some}
-use Prim.Native.Nat.{ℕ}
+use Prim.Native.Nat.{ℕ, _≤_}
+use native.Mathlib.Omega.{arith}
 use lib.IntN.{ℤ, pos}
 use lib.Ieee.{Float}
-use lib.ListN.{take}
+use lib.ListN.{length, take, length-map}
 use Rattle.numbers.specs.declared.refusal.Refusal.{Refusal}
 use Rattle.numbers.specs.declared.refusal.Refusal.the-variants.{FrameLine}
 use Rattle.numbers.specs.Refusal.{numberOf}
@@ -19,11 +20,14 @@ use Rattle.input_volume_controller.specs.Controller.{Controller, viewOf, Good}
 use Rattle.input_volume_controller.specs.Reply.{Reply, mark, refusal, analysisSays}
 use Rattle.input_volume_controller.specs.Calls.{Call, frame, recommendation, step, AnalyzedOf}
 use Rattle.frame_lines.specs.declared.answer.Reply.the-variants.{Refused}
-use Rattle.frame_lines.specs.Line.{Fields, meaning}
-use Rattle.frame_lines.proofs.Meanings.{FrameOf}
+use Rattle.frame_lines.specs.declared.line.Parsed.{Parsed}
+use Rattle.frame_lines.specs.declared.line.Parsed.the-variants.{Malformed}
+use Rattle.frame_lines.specs.Line.{Fields, mostSamples, meaning}
+use Rattle.frame_lines.specs.Parsed.{sampleOf, ParsedAs}
+use Rattle.frame_lines.proofs.Meanings.{FrameOf, malformed-of, few-samples}
 use Rattle.frame_answers.specs.declared.answers.Answered.{Answered}
 use Rattle.frame_answers.specs.LineStep.{frameCall, recommendationCall, LineStep, refusedLine, recommendedLine, afterFrame, meantStep, lineStep}
-use Rattle.frame_answers.specs.Answered.{Leads, AnsweredAs, VolumePending, RecommendedAs}
+use Rattle.frame_answers.specs.Answered.{Leads, AnsweredAs, VolumePending, RecommendedAs, Makes, FrameAnsweredAs}
 use Rattle.frame_answers.proofs.Recommended.{frame-pending}
 
 -- ---- the definition, by the tests on the way
@@ -47,41 +51,54 @@ module _ (c : Controller) (line : List ℕ) where
 leads-as : (s t : LineStep) (r : Answered) → s ≡ t → Leads s r → Leads t r
 leads-as s t r e h = subst (λ (x : LineStep). Leads x r) e h
 
-pub malformed-as : (self : InputVolumeController) (line : List ℕ) → Good self → meaning line ≡ none → AnsweredAs self line (record { reply = Refused FrameLine; controller = self })
-malformed-as self line good e = record {
-  leads = leads-as _ _ _ (sym (line-malformed (viewOf self) line e)) (record { good = good; reply = refl; view = refl });
+-- `parse` has found a line malformed
+pub malformed-as : (self : InputVolumeController) (line : List ℕ) (before after : List Float) (parsed : Parsed) → Good self → ParsedAs line before after parsed → parsed ≡ Malformed
+    → AnsweredAs self line (record { controller = self; reply = Refused FrameLine })
+malformed-as self line before after parsed good p e = record {
+  leads = leads-as _ _ _ (sym (line-malformed (viewOf self) line (malformed-of line before after (subst (ParsedAs line before after) e p))))
+      (record { good = good; reply = refl; view = refl });
   same = λ cause q. refl;
 }
 
-module _ (self : InputVolumeController) (line : List ℕ) (after : List Float) (v : ℕ) (p : Float) (l : SpeechLevel) (n : ℕ) (f : FrameOf line after v p l n) (z : ℤ) (e : z ≡ pos v)
-    (a : Analyzed) (h : AnalyzedOf self z n (take n after) a) where
-  call-is : frame z n (take n after) ≡ frameCall (f .meant)
-  call-is = λ i. frame ((e ∙ ap pos (f .volume-is)) i) (f .count-is i) (f .samples-are i)
+-- it has found one in order: its samples have room, and these are its calls
+pub few : (line : List ℕ) (after : List Float) (v : ℕ) (p : Float) (l : SpeechLevel) (n : ℕ) → FrameOf line after v p l n → n ≤ mostSamples
+few line after v p l n f = omega (arith, f .count-is, few-samples line (f .meant) (f .means))
 
-  says : (answer : Analysis) → a .answer ≡ answer → step (viewOf self) (frameCall (f .meant)) .reply ≡ analysisSays answer
-  says answer q = sym (sym (ap analysisSays q) ∙ h .does .reply ∙ ap (λ (x : Call). step (viewOf self) x .reply) call-is)
+pub makes-calls : (line : List ℕ) (after : List Float) (v : ℕ) (p : Float) (l : SpeechLevel) (n : ℕ) → FrameOf line after v p l n
+    → Makes line (frame (pos v) (length (take n after)) (take n after)) (recommendation p l)
+makes-calls line after v p l n f =
+    let count : length (take n after) ≡ length (f .meant .samples) = ap length (f .samples-are) ∙ length-map (f .meant .samples) sampleOf in
+    record {
+      meant = f .meant;
+      means = f .means;
+      frame-is = λ i. frame (pos (f .volume-is i)) (count i) (f .samples-are i);
+      recommendation-is = λ i. recommendation (f .probability-is i) (f .level-is i);
+    }
 
-  state-is : viewOf (a .controller) ≡ step (viewOf self) (frameCall (f .meant)) .state
-  state-is = h .does .view ∙ ap (λ (x : Call). step (viewOf self) x .state) call-is
+module _ (self : InputVolumeController) (z : ℤ) (n : ℕ) (lent : List Float) (a : Analyzed) (h : AnalyzedOf self z n lent a) (p : Float) (l : SpeechLevel) where
+  module _ (line : List ℕ) (m : Makes line (frame z n lent) (recommendation p l)) where
+    says : (answer : Analysis) → a .answer ≡ answer → step (viewOf self) (frameCall (m .meant)) .reply ≡ analysisSays answer
+    says answer q = sym (sym (ap analysisSays q) ∙ h .does .reply ∙ ap (λ (x : Call). step (viewOf self) x .reply) (m .frame-is))
 
-  pub refused-as : (cause : Refusal) → a .answer ≡ Analysis.Refused cause → AnsweredAs self line (record { reply = Refused cause; controller = a .controller })
-  refused-as cause q = record {
-    leads = leads-as _ _ _ (sym (line-refused (viewOf self) line (f .meant) (f .means) (numberOf cause) (says (Analysis.Refused cause) q)))
+    state-is : viewOf (a .controller) ≡ step (viewOf self) (frameCall (m .meant)) .state
+    state-is = h .does .view ∙ ap (λ (x : Call). step (viewOf self) x .state) (m .frame-is)
+
+  pub refused-as : (cause : Refusal) → a .answer ≡ Analysis.Refused cause → FrameAnsweredAs self (frame z n lent) (recommendation p l) (record { controller = a .controller; reply = Refused cause })
+  refused-as cause q line m = record {
+    leads = leads-as _ _ _ (sym (line-refused (viewOf self) line (m .meant) (m .means) (numberOf cause) (says line m (Analysis.Refused cause) q)))
         (record { good = h .does .good; reply = refl; view = ap viewOf (h .same cause q) });
     same = λ other r. h .same cause q;
   }
 
   module _ (near : Bool) (q : a .answer ≡ Analysis.Accepted near) where
     pub pending-after : VolumePending (viewOf (a .controller))
-    pending-after =
-        subst VolumePending (sym (h .does .view))
-        (frame-pending (viewOf self) z n (take n after) near (sym (h .does .reply) ∙ ap analysisSays q))
+    pending-after = subst VolumePending (sym (h .does .view)) (frame-pending (viewOf self) z n lent near (sym (h .does .reply) ∙ ap analysisSays q))
 
-    pub accepted-as : (r : Answered) → RecommendedAs (a .controller) near p l r → AnsweredAs self line r
-    accepted-as r m = record {
+    pub accepted-as : (r : Answered) → RecommendedAs (a .controller) near p l r → FrameAnsweredAs self (frame z n lent) (recommendation p l) r
+    accepted-as r d line m = record {
       leads = leads-as _ _ r
-          ((λ i. recommendedLine near (step (state-is i) (recommendation (f .probability-is i) (f .level-is i))))
-          ∙ sym (line-marked (viewOf self) line (f .meant) (f .means) near (says (Analysis.Accepted near) q)))
-          (m .leads);
-      same = λ cause x. absurd (m .accepted cause x);
+          ((λ i. recommendedLine near (step (state-is line m i) (m .recommendation-is i)))
+          ∙ sym (line-marked (viewOf self) line (m .meant) (m .means) near (says line m (Analysis.Accepted near) q)))
+          (d .leads);
+      same = λ cause x. absurd (d .accepted cause x);
     }

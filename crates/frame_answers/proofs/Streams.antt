@@ -4,15 +4,13 @@ use mathlib.Core.List.{List, [], _∷_, _++_, append-nil}
 use Prim.Native.Nat.{ℕ, _≤_}
 use native.Mathlib.Omega.{arith}
 use lib.IntN.{ℤ, pos}
-use lib.ListN.{length, take}
+use lib.ListN.{length}
 use Rattle.mono_input_volume_controller.specs.declared.config.Config.{Config}
 use Rattle.mono_input_volume_controller.specs.Config.{defaults}
 use Rattle.input_volume_controller.specs.declared.Created.{Created}
 use Rattle.input_volume_controller.specs.declared.InputVolumeController.{InputVolumeController}
 use Rattle.input_volume_controller.specs.Controller.{makingOf, CreatedOf}
 use Rattle.input_volume_controller.specs.Controller as Controller
-use Rattle.frame_lines.specs.declared.answer.Reply.{Reply}
-use Rattle.frame_lines.specs.declared.answer.Reply.the-variants.{Volume, Refused}
 use Rattle.frame_lines.specs.declared.answer.Text.{Text}
 use Rattle.frame_lines.specs.declared.lines.Begun.{Begun}
 use Rattle.frame_lines.specs.Answer.{answerOf, held}
@@ -25,10 +23,10 @@ use Rattle.frame_answers.specs.declared.answers.Answered.{Answered}
 use Rattle.frame_answers.specs.declared.stream.Stream.{Stream}
 use Rattle.frame_answers.specs.LineStep.{LineStep, lineStep}
 use Rattle.frame_answers.specs.Texts.{textOf, afterLines, textOfLines, startController}
-use Rattle.frame_answers.specs.Answered.{replySays, AnsweredAs}
+use Rattle.frame_answers.specs.Answered.{AnsweredAs}
 use Rattle.frame_answers.specs.Stream.{State, viewOf, Good, Becomes, freshState, afterPiece, finishedText, EndedAs}
 use Rattle.frame_answers.proofs.InTwo.{cut-step}
-use Rattle.frame_answers.proofs.Turns.{text-fits}
+use Rattle.frame_answers.proofs.Turns.{text-fits, says-text}
 
 nothing-ends : (p : Begun) → kept p ≡ [] → ended (kept p) ≡ []
 unfolding ended
@@ -62,11 +60,6 @@ keeps-part s good part none p k = record {
 
 -- ---- an answer's text
 
-says-text : (reply : Reply) → answerOf reply ≡ textOf (replySays reply)
-unfolding answerOf textOf
-says-text (Volume volume near) = refl
-says-text (Refused cause) = refl
-
 text-of : (c : InputVolumeController) (line : List ℕ) (a : Answered) → AnsweredAs c line a → (t : Text) → t ≡ held (answerOf (a .reply)) → t ≡ held (textOf (lineStep (Controller.viewOf c) line .answer))
 text-of c line a h t e = e ∙ ap held (says-text (a .reply) ∙ ap textOf (h .leads .reply))
 
@@ -74,30 +67,29 @@ text-of c line a h t e = e ∙ ap held (says-text (a .reply) ∙ ap textOf (h .l
 
 module _ (s : Stream) (good : Good s) where
   -- none was begun before
-  pub ends-within : s .begun .length ≡ 0 → (part : List ℕ) (a : Answered) → AnsweredAs (s .controller) part a → (t : Text) → t ≡ held (answerOf (a .reply))
-      → EndedAs (viewOf s) part (record { stream = record { controller = a .controller; begun = s .begun }; text = t })
-  ends-within e part a h t k =
-      let none : kept (s .begun) ≡ [] = ap (λ (n : ℕ). take n (s .begun .bytes)) e in
+  pub ends-within : kept (s .begun) ≡ [] → (part : List ℕ) (a : Answered) → AnsweredAs (s .controller) part a
+      → EndedAs (viewOf s) part (record { stream = record { controller = a .controller; begun = s .begun }; reply = a .reply })
+  ends-within none part a h =
       let same : lineStep (viewOf s .controller) part ≡ lineStep (viewOf s .controller) (kept (s .begun) ++ part) = ap (λ (l : List ℕ). lineStep (viewOf s .controller) (l ++ part)) (sym none) in
       record {
         stream = record {
           good = record { controller = h .leads .good; begun = good .begun; unended = good .unended };
           is = λ i. record { controller = (h .leads .view ∙ ap (λ (x : LineStep). x .state) same) i; kept = none i };
         };
-        text = text-of (s .controller) part a h t k ∙ ap (λ (x : LineStep). held (textOf (x .answer))) same;
+        reply = h .leads .reply ∙ ap (λ (x : LineStep). x .answer) same;
       }
 
   -- one was: what was kept of it, and the part
   pub ends-begun : (part : List ℕ) (w : Begun) → Keeps (cut (kept (s .begun) ++ part)) w → (a : Answered) → AnsweredAs (s .controller) (kept w) a
-      → (p : Begun) → Keeps [] p → (t : Text) → t ≡ held (answerOf (a .reply)) → EndedAs (viewOf s) part (record { stream = record { controller = a .controller; begun = p }; text = t })
-  ends-begun part w k a h p c t q =
+      → (p : Begun) → Keeps [] p → EndedAs (viewOf s) part (record { stream = record { controller = a .controller; begun = p }; reply = a .reply })
+  ends-begun part w k a h p c =
       let same : lineStep (viewOf s .controller) (kept w) ≡ lineStep (viewOf s .controller) (kept (s .begun) ++ part) = ap (lineStep (viewOf s .controller)) (k .kept-is) ∙ cut-step (viewOf s .controller) (kept (s .begun) ++ part) in
       record {
         stream = record {
           good = record { controller = h .leads .good; begun = c .good; unended = nothing-ends p (c .kept-is) };
           is = λ i. record { controller = (h .leads .view ∙ ap (λ (x : LineStep). x .state) same) i; kept = c .kept-is i };
         };
-        text = text-of (s .controller) (kept w) a h t q ∙ ap (λ (x : LineStep). held (textOf (x .answer))) same;
+        reply = h .leads .reply ∙ ap (λ (x : LineStep). x .answer) same;
       }
 
 -- ---- the end of the input

@@ -1,4 +1,4 @@
--- The loop of `feed` over the lines of a piece: what holds at each turn, and what it leaves. Assumes nothing.
+-- The lines of a piece, one after another: what holds at each turn, and what it leaves. Assumes nothing.
 use mathlib.Core.Path.{_≡_, refl, sym, ap, subst, _∙_}
 use mathlib.Core.Bool.{Bool, true, false}
 use mathlib.Core.List.{List, [], _∷_, _++_, append-assoc, append-nil}
@@ -9,12 +9,13 @@ use lib.Dec.{ltb}
 use lib.ListN.{length, take, drop, length-append, length-drop, take-append-drop}
 use lib.Seq.{take-all, take-length, length-take-le, take-append-seam, drop-append-add, drop-drop, take-add, paste}
 use Rattle.frame_lines.specs.declared.answer.Text.{Text}
+use Rattle.frame_lines.specs.declared.answer.Reply.{Reply}
 use Rattle.frame_lines.specs.declared.lines.Feed.the-variants.{At, Nowhere}
-use Rattle.frame_lines.specs.Answer.{longest, numberText, decimal, answerOf}
+use Rattle.frame_lines.specs.Answer.{longest, numberText, decimal, answerOf, held}
 use Rattle.frame_lines.specs.Lines.{isFeed}
 use Rattle.frame_lines.specs.Stream.{keptCharacters, cut, endedIf, ended, begunIf, begun}
 use Rattle.frame_lines.specs.Feeds.{feedIf, firstFeed, feedFrom, kept}
-use Rattle.frame_lines.specs.declared.answer.Reply.the-variants.{Volume}
+use Rattle.frame_lines.specs.declared.answer.Reply.the-variants.{Volume, Refused}
 use Rattle.frame_lines.proofs.Answers.{Fitting, number-fits, answer-fits, held-text}
 use Rattle.frame_lines.proofs.Feeding.{found-if, lost-if, line-found, no-line-ends}
 use Rattle.frame_lines.proofs.Pieces.{joined, begunAfter, ended-after, begun-after, begun-all}
@@ -22,6 +23,7 @@ use Rattle.frame_answers.specs.declared.stream.Stream.{Stream}
 use Rattle.frame_answers.specs.declared.stream.Ended.{Ended}
 use Rattle.frame_answers.specs.LineStep.{Answer, recommended, refused}
 use Rattle.frame_answers.specs.Texts.{textOf, afterLines, textOfLines}
+use Rattle.frame_answers.specs.Answered.{replySays}
 use Rattle.frame_answers.specs.Stream.{State, viewOf, Good, Becomes, textOfPiece, afterPiece, roomBehind, upTo, usedOf, laid, lineEnded, EndedAs, FedAs}
 use Rattle.frame_answers.proofs.InTwo.{text-two, after-two, text-none}
 
@@ -31,6 +33,11 @@ pub text-fits : (a : Answer) → Fitting (textOf a)
 unfolding textOf answerOf numberText decimal
 text-fits (recommended volume near) = answer-fits (Volume volume near)
 text-fits (refused n) = number-fits (ltb n 10) n
+
+pub says-text : (reply : Reply) → answerOf reply ≡ textOf (replySays reply)
+unfolding answerOf textOf
+says-text (Volume volume near) = refl
+says-text (Refused cause) = refl
 
 -- ---- a stream in good order that nothing is fed
 
@@ -98,6 +105,10 @@ unfolding upTo
 used-none [] = refl
 used-none (b ∷ text) = refl
 
+-- what lies behind a place is all that is left
+pub to-end : (at : ℕ) (text : List ℕ) → take (length text - at) (drop at text) ≡ drop at text
+to-end at text = take-all (length text - at) (drop at text) (omega (arith, length-drop at text))
+
 -- ---- a turn: the stream is fed the rest of a line with its line feed
 
 module _ (s : State) (u : ended (s .kept) ≡ []) (text : List ℕ) (n : ℕ) (f : FirstLine text n) where
@@ -117,11 +128,17 @@ module _ (s : State) (u : ended (s .kept) ≡ []) (text : List ℕ) (n : ℕ) (f
 
 -- ---- the text that was put
 
-put-behind : (t x out₀ out bytes : List ℕ) (n : ℕ) → out ≡ laid t out₀ → n ≡ length x → take n bytes ≡ x → paste out (length t) bytes n ≡ laid (t ++ x) out₀
-put-behind t x out₀ out bytes n e k b =
-    ap (λ (o : List ℕ). paste o (length t) bytes n) e
-    ∙ (λ i. (take-append-seam t (drop (length t) out₀) i ++ b i) ++ (drop-append-add t (drop (length t) out₀) n ∙ drop-drop n (length t) out₀) i)
-    ∙ ap (λ (m : ℕ). (t ++ x) ++ drop m out₀) (ap (λ (m : ℕ). length t + m) k ∙ sym (length-append t x))
+-- a text that is held
+pub put-held : (out : List ℕ) (at : ℕ) (x : List ℕ) (t : Text) → t ≡ held x → paste out at (t .bytes) (t .length) ≡ paste out at x (length x)
+put-held out at x t e =
+    ap (λ (u : Text). paste out at (u .bytes) (u .length)) e
+    ∙ (λ i. (take at out ++ (held-text x ∙ sym (take-length x)) i) ++ drop (at + length x) out)
+
+put-behind : (t x out₀ out : List ℕ) → out ≡ laid t out₀ → paste out (length t) x (length x) ≡ laid (t ++ x) out₀
+put-behind t x out₀ out e =
+    ap (λ (o : List ℕ). paste o (length t) x (length x)) e
+    ∙ (λ i. (take-append-seam t (drop (length t) out₀) i ++ take-length x i) ++ (drop-append-add t (drop (length t) out₀) (length x) ∙ drop-drop (length x) (length t) out₀) i)
+    ∙ ap (λ (m : ℕ). (t ++ x) ++ drop m out₀) (sym (length-append t x))
 
 -- ---- what holds at each turn
 
@@ -150,6 +167,9 @@ module _ (piece out₀ : List ℕ) where
         let t = textOfPiece self (take at piece) in
         let o : length out ≡ length t + length (drop (length t) out₀) = ap length (h .out-is) ∙ length-append t (drop (length t) out₀) in
         omega (arith, h .fits, h .written-is, length-drop (length t) out₀)
+
+    pub reply-room : 0 < room → written + longest ≤ length out
+    reply-room more = omega (arith, h .fits, out-length)
 
     -- room is left and a line feed was found at e
     module _ (e : ℕ) (found : feedFrom piece at ≡ At e) (more : 0 < room) where
@@ -200,30 +220,21 @@ module _ (piece out₀ : List ℕ) where
           ∙ (λ i. sym next i ++ upTo (rest i) (room - 1))
 
       module _ (r : Ended) (ends : EndedAs (viewOf s) (take (e - at) (drop at piece)) r) where
-        text-is : take (r .text .length) (r .text .bytes) ≡ answered
-        text-is = ap (λ (t : Text). take (t .length) (t .bytes)) (ends .text) ∙ held-text answered
+        text-is : answerOf (r .reply) ≡ answered
+        text-is = says-text (r .reply) ∙ ap textOf (ends .reply)
 
-        length-is : r .text .length ≡ length answered
-        length-is = ap (λ (t : Text). t .length) (ends .text)
-
-        pub text-room : (length (r .text .bytes) ≡ longest) × (r .text .length ≤ longest) × (written + r .text .length ≤ length out)
-        text-room =
-            let f = text-fits (lineEnded (viewOf s) part .answer) in (
-              ap (λ (x : Text). length (x .bytes)) (ends .text) ∙ f .places,
-              omega (arith, length-is, f .within),
-              omega (arith, length-is, f .within, h .fits, out-length),
-            )
-
-        pub goes-on : SoFar self piece out₀ (r .stream) (e + 1) (written + r .text .length) (room - 1) (paste out written (r .text .bytes) (r .text .length))
-        goes-on = record {
+        pub goes-on : (w : ℕ) (o : List ℕ) → (w ≡ written + length (answerOf (r .reply))) × (o ≡ paste out written (answerOf (r .reply)) (length (answerOf (r .reply))))
+            → SoFar self piece out₀ (r .stream) (e + 1) w (room - 1) o
+        goes-on w o put = record {
           within = omega (arith, found-at .1);
           becomes = record { good = ends .stream .good; is = ends .stream .is ∙ sym after-next };
-          written-is = (λ i. h .written-is i + length-is i) ∙ sym (length-append (textOfPiece self (take at piece)) answered) ∙ ap length (sym text-next);
+          written-is = put .0 ∙ (λ i. h .written-is i + length (text-is i)) ∙ sym (length-append (textOfPiece self (take at piece)) answered) ∙ ap length (sym text-next);
           out-is =
-              ap (λ (w : ℕ). paste out w (r .text .bytes) (r .text .length)) (h .written-is)
-              ∙ put-behind (textOfPiece self (take at piece)) answered out₀ out (r .text .bytes) (r .text .length) (h .out-is) length-is text-is
+              put .1
+              ∙ (λ i. paste out (h .written-is i) (text-is i) (length (text-is i)))
+              ∙ put-behind (textOfPiece self (take at piece)) answered out₀ out (h .out-is)
               ∙ ap (λ (t : List ℕ). laid t out₀) (sym text-next);
-          fits = omega (arith, length-is, text-fits (lineEnded (viewOf s) part .answer) .within, h .fits);
+          fits = omega (arith, put .0, ap length text-is, text-fits (lineEnded (viewOf s) part .answer) .within, h .fits);
           used = used-next;
         }
 

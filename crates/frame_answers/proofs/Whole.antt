@@ -10,7 +10,7 @@ use lib.Seq.{take-append-seam}
 use Rattle.frame_lines.specs.declared.answer.Text.{Text}
 use Rattle.frame_lines.specs.Answer.{longest}
 use Rattle.frame_lines.specs.Lines.{isFeed}
-use Rattle.frame_lines.specs.Stream.{cut, ended, begun, lastLine}
+use Rattle.frame_lines.specs.Stream.{ended, begun, lastLine}
 use Rattle.frame_lines.proofs.Answers.{held-text}
 use Rattle.frame_lines.proofs.Pieces.{whole, last-cut}
 use Rattle.frame_answers.specs.declared.stream.Stream.{Stream}

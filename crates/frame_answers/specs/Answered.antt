@@ -2,6 +2,7 @@
 use mathlib.Core.Path.{_≡_}
 use mathlib.Core.Bool.{Bool}
 use mathlib.Core.List.{List}
+use mathlib.Core.Option.{some}
 use Prim.Native.Nat.{ℕ, _≤_}
 use lib.Ieee.{Float}
 use Rattle.numbers.specs.declared.refusal.Refusal.{Refusal}
@@ -11,11 +12,12 @@ use Rattle.mono_input_volume_controller.specs.MonoState.{maxInputVolume}
 use Rattle.input_volume_controller.specs.declared.Applied.the-variants as Applied
 use Rattle.input_volume_controller.specs.declared.InputVolumeController.{InputVolumeController}
 use Rattle.input_volume_controller.specs.Controller.{Controller, viewOf, Good}
-use Rattle.input_volume_controller.specs.Calls.{recommendation, step}
+use Rattle.input_volume_controller.specs.Calls.{Call, recommendation, step}
 use Rattle.frame_lines.specs.declared.answer.Reply.{Reply}
 use Rattle.frame_lines.specs.declared.answer.Reply.the-variants.{Volume, Refused}
+use Rattle.frame_lines.specs.Line.{Fields, meaning}
 use Rattle.frame_answers.specs.declared.answers.Answered.{Answered}
-use Rattle.frame_answers.specs.LineStep.{Answer, recommended, refused, LineStep, recommendedLine, lineStep}
+use Rattle.frame_answers.specs.LineStep.{frameCall, recommendationCall, Answer, recommended, refused, LineStep, recommendedLine, lineStep}
 
 -- document 01's words for each case of a reply
 abbrev pub replySays : Reply → Answer
@@ -43,3 +45,14 @@ pub record VolumePending (c : Controller) : Type 0 where
 pub record RecommendedAs (controller : InputVolumeController) (near : Bool) (probability : Float) (level : SpeechLevel) (r : Answered) : Type 0 where
   pub leads : Leads (recommendedLine near (step (viewOf controller) (recommendation probability level))) r
   pub accepted : (cause : Refusal) → r .reply ≡ Refused cause → ⊥
+
+-- a line in order, whose frame and recommendation are these calls
+pub record Makes (line : List ℕ) (heard asked : Call) : Type 0 where
+  pub meant : Fields
+  pub means : meaning line ≡ some meant
+  pub frame-is : heard ≡ frameCall meant
+  pub recommendation-is : asked ≡ recommendationCall meant
+
+-- what the private function says of a line's two calls: it answers every line that makes them
+abbrev pub FrameAnsweredAs : InputVolumeController → Call → Call → Answered → Type 0
+FrameAnsweredAs controller heard asked r = (line : List ℕ) → Makes line heard asked → AnsweredAs controller line r

@@ -16,7 +16,8 @@ use Rattle.frame_answers.specs.declared.stream.Stream.{Stream}
 use Rattle.frame_answers.specs.declared.stream.Fed.{Fed}
 use Rattle.frame_answers.specs.declared.stream.Ended.{Ended}
 use Rattle.frame_answers.specs.LineStep.{LineStep, lineStep}
-use Rattle.frame_answers.specs.Texts.{textOf, afterLines, textOfLines, startController}
+use Rattle.frame_answers.specs.Texts.{afterLines, textOfLines, startController}
+use Rattle.frame_answers.specs.Answered.{replySays}
 
 -- ---- a stream
 
@@ -101,7 +102,7 @@ lineEnded s part = lineStep (s .controller) (s .kept ++ part)
 
 pub record EndedAs (self : State) (part : List ℕ) (r : Ended) : Type 0 where
   pub stream : Becomes (record { controller = lineEnded self part .state; kept = [] }) (r .stream)
-  pub text : r .text ≡ held (textOf (lineEnded self part .answer))
+  pub reply : replySays (r .reply) ≡ lineEnded self part .answer
 
 -- ---- a run of the code, by the contracts of `feed` and `finish`: the text that was used of all pieces, and all bytes that were put
 

@@ -1,6 +1,9 @@
 // A line with a controller: its frame, and the recommendation that follows an accepted frame.
+ghost use lib.IntN.{pos};
+ghost use lib.ListN.{length};
 ghost use Rattle.input_volume_controller.specs.Controller.{Good, viewOf};
-ghost use Rattle.frame_answers.specs.Answered.{RecommendedAs, AnsweredAs, VolumePending};
+ghost use Rattle.input_volume_controller.specs.Calls.{frame, recommendation};
+ghost use Rattle.frame_answers.specs.Answered.{RecommendedAs, FrameAnsweredAs, AnsweredAs, VolumePending};
 use frame_lines::answer::Reply;
 use frame_lines::line::MOST_SAMPLES;
 use frame_lines::line::Parsed;
@@ -13,8 +16,8 @@ use numbers::refusal::Refusal;
 
 // What a line is answered, and the controller after it.
 pub struct Answered {
-    pub reply: Reply,
     pub controller: InputVolumeController,
+    pub reply: Reply,
 }
 
 // The recommendation after a frame, beside that frame's mark. With a volume pending there always is one.
@@ -32,13 +35,36 @@ fn recommended(
     let next = done.controller;
     let Recommendation::Volume(volume) = answer else {
         return Answered {
-            reply: Reply::Volume(0, near),
             controller: next,
+            reply: Reply::Volume(0, near),
         };
     };
     Answered {
-        reply: Reply::Volume(numbers::sign::size(volume) as u8, near),
         controller: next,
+        reply: Reply::Volume(numbers::sign::size(volume) as u8, near),
+    }
+}
+
+// The frame of a line, and the recommendation that follows. It gets what was parsed, so that the controller is handed over for a line in order alone.
+pub(crate) fn answer_frame(
+    controller: InputVolumeController,
+    volume: u8,
+    probability: f32,
+    level: SpeechLevel,
+    samples: &[f32],
+) -> Answered
+    requires { ⌜ Good controller ⌝ }
+    ensures { λ r. ⌜ FrameAnsweredAs controller (frame (pos volume) (length (now (samples .entry))) (now (samples .entry))) (recommendation probability level) r ⌝ }
+{
+    let heard = controller.analyze_input_audio(volume as i32, samples.len(), samples);
+    let answer = heard.answer;
+    let next = heard.controller;
+    match answer {
+        Analysis::Refused(cause) => Answered {
+            controller: next,
+            reply: Reply::Refused(cause),
+        },
+        Analysis::Accepted(near) => recommended(next, near, probability, level),
     }
 }
 
@@ -51,18 +77,9 @@ pub fn answer_line(controller: InputVolumeController, line: &[u8]) -> Answered
     let parsed = parse(line, &mut samples);
     let Parsed::Frame(volume, probability, level, n) = parsed else {
         return Answered {
-            reply: Reply::Refused(Refusal::FrameLine),
             controller,
+            reply: Reply::Refused(Refusal::FrameLine),
         };
     };
-    let heard = controller.analyze_input_audio(volume as i32, n, &samples[..n]);
-    let answer = heard.answer;
-    let next = heard.controller;
-    match answer {
-        Analysis::Refused(cause) => Answered {
-            reply: Reply::Refused(cause),
-            controller: next,
-        },
-        Analysis::Accepted(near) => recommended(next, near, probability, level),
-    }
+    answer_frame(controller, volume, probability, level, &samples[..n])
 }

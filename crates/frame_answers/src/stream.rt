@@ -4,19 +4,25 @@ ghost use Prim.Native.Nat.{_+_, _≤_};
 ghost use lib.ListN.{length};
 ghost use lib.Seq.{paste};
 ghost use mathlib.Core.List.{[], _++_};
-ghost use Rattle.frame_lines.specs.Answer.{longest, held};
+ghost use Rattle.frame_lines.specs.Answer.{longest, answerOf, held};
 ghost use Rattle.frame_lines.specs.Stream.{ended};
 ghost use Rattle.frame_lines.specs.Feeds.{kept};
 ghost use Rattle.frame_answers.specs.Stream.{viewOf, Good, Becomes, freshState, afterPiece, finishedText, FedAs, EndedAs};
+use crate::answers::answer_frame;
 use crate::answers::answer_line;
 use frame_lines::answer::LONGEST;
+use frame_lines::answer::Reply;
 use frame_lines::answer::Text;
 use frame_lines::answer::answer;
+use frame_lines::line::MOST_SAMPLES;
+use frame_lines::line::Parsed;
+use frame_lines::line::parse;
 use frame_lines::lines::Begun;
 use frame_lines::lines::Feed;
 use frame_lines::lines::next_feed;
 use input_volume_controller::InputVolumeController;
 use mono_input_volume_controller::config::default_config;
+use numbers::refusal::Refusal;
 
 pub struct Stream {
     pub controller: InputVolumeController,
@@ -33,7 +39,7 @@ pub struct Fed {
 // What the end of a line leads to: the stream after it, and the answer.
 struct Ended {
     stream: Stream,
-    text: Text,
+    reply: Reply,
 }
 
 // A text from a place on.
@@ -45,6 +51,16 @@ fn put(out: &mut [u8], at: usize, text: Text)
     for i in 0..count {
         out[at + i] = text.bytes[i];
     }
+}
+
+// An answer from a place on, and the place behind it.
+fn put_reply(out: &mut [u8], at: usize, reply: Reply) -> usize
+    requires { ⌜ at + longest ≤ length (now out) ⌝ }
+    ensures { λ r. ⌜ (r ≡ at + length (answerOf reply)) × (now (out .exit) ≡ paste (now (out .entry)) at (answerOf reply) (length (answerOf reply))) ⌝ }
+{
+    let text = answer(reply);
+    put(out, at, text);
+    at + text.length
 }
 
 impl Stream {
@@ -67,18 +83,6 @@ impl Stream {
     {
         let controller = self.controller;
         let begun = self.begun;
-        if begun.length == 0 {
-            let answered = answer_line(controller, part);
-            let next = answered.controller;
-            let reply = answered.reply;
-            return Ended {
-                stream: Stream {
-                    controller: next,
-                    begun,
-                },
-                text: answer(reply),
-            };
-        }
         let whole = begun.append(part);
         let n = whole.length;
         let bytes = whole.bytes;
@@ -90,7 +94,7 @@ impl Stream {
                 controller: next,
                 begun: whole.cleared(),
             },
-            text: answer(reply),
+            reply,
         }
     }
 
@@ -107,37 +111,82 @@ impl Stream {
         }
     }
 
-    // The lines that end in a piece, as many as `out` surely has room for, are answered, and their answers put at its beginning. If it has room for the answers to all of them, the whole piece is used.
-    pub fn feed(self, piece: &[u8], out: &mut [u8]) -> Fed
-        requires { ⌜ Good self ⌝ }
+    // `feed` where no line has begun: every line lies within the piece. One that is malformed leaves the controller where it is.
+    fn whole_lines(self, piece: &[u8], out: &mut [u8]) -> Fed
+        requires { ⌜ Good self × (kept (self .begun) ≡ []) ⌝ }
         ensures { λ r. ⌜ FedAs (viewOf self) (now (piece .entry)) (now (out .entry)) (now (out .exit)) r ⌝ }
     {
-        let mut stream = self;
+        let begun = self.begun;
+        let mut controller = self.controller;
+        let mut samples = [0.0f32; MOST_SAMPLES];
         let mut at = 0;
         let mut written = 0;
         let mut room = out.len() / LONGEST;
         while 0 < room {
             let next = next_feed(piece, at);
             let Feed::At(end) = next else {
+                let stream = Stream { controller, begun };
                 return Fed {
                     stream: stream.keeping(&piece[at..]),
                     used: piece.len(),
                     written,
                 };
             };
-            let ended = stream.ended(&piece[at..end]);
-            stream = ended.stream;
-            let text = ended.text;
-            put(out, written, text);
-            written += text.length;
+            let parsed = parse(&piece[at..end], &mut samples);
             at = end + 1;
             room -= 1;
+            let Parsed::Frame(volume, probability, level, n) = parsed else {
+                written = put_reply(out, written, Reply::Refused(Refusal::FrameLine));
+                continue;
+            };
+            let answered = answer_frame(controller, volume, probability, level, &samples[..n]);
+            controller = answered.controller;
+            let reply = answered.reply;
+            written = put_reply(out, written, reply);
         }
         Fed {
-            stream,
+            stream: Stream { controller, begun },
             used: at,
             written,
         }
+    }
+
+    // The lines that end in a piece, as many as `out` surely has room for, are answered, and their answers put at its beginning. If it has room for the answers to all of them, the whole piece is used.
+    pub fn feed(self, piece: &[u8], out: &mut [u8]) -> Fed
+        requires { ⌜ Good self ⌝ }
+        ensures { λ r. ⌜ FedAs (viewOf self) (now (piece .entry)) (now (out .entry)) (now (out .exit)) r ⌝ }
+    {
+        let begun = self.begun;
+        if begun.length == 0 {
+            return self.whole_lines(piece, out);
+        }
+        let room = out.len();
+        if room < LONGEST {
+            return Fed {
+                stream: self,
+                used: 0,
+                written: 0,
+            };
+        }
+        let next = next_feed(piece, 0);
+        let Feed::At(end) = next else {
+            return Fed {
+                stream: self.keeping(piece),
+                used: piece.len(),
+                written: 0,
+            };
+        };
+        let first = self.ended(&piece[..end]);
+        let stream = first.stream;
+        let reply = first.reply;
+        let from = end + 1;
+        let start = put_reply(out, 0, reply);
+        // The others get the room of one answer less.
+        let stop = start + (room - LONGEST);
+        let mut rest = stream.whole_lines(&piece[from..], &mut out[start..stop]);
+        rest.used += from;
+        rest.written += start;
+        rest
     }
 
     // The answer to the last line, if it lacks its line feed, or nothing.

@@ -1,15 +1,12 @@
--- `frame_answers::answers::answer_line` meets its contract: a line that is malformed, one whose frame is refused, and one whose frame is accepted. Assumes nothing.
+-- `frame_answers::answers::answer_line` meets its contract: a line that is malformed, and one that is in order. Assumes nothing.
 use mathlib.Core.Path.{subst}
-use Prim.Native.Nat.{_≤_}
 use native.Mathlib.Omega.{arith}
 use lib.Ieee.{binary32, ofBits}
 use lib.ListN.{length-take, length-replicate}
-use mir.Syntax.{w32}
-use mir.ValLaws.{toZ-pos}
 use denote.Ref.{now}
 use Rattle.frame_lines.specs.Parsed.{ParsedAs}
-use Rattle.frame_lines.proofs.Meanings.{FrameOf, frame-of, malformed-of, few-samples}
-use Rattle.frame_answers.proofs.Lines.{malformed-as, refused-as, pending-after, accepted-as}
+use Rattle.frame_lines.proofs.Meanings.{FrameOf, frame-of}
+use Rattle.frame_answers.proofs.Lines.{malformed-as, few, makes-calls}
 use borrow.Author.Needs.{needs}
 use Rattle.frame_answers.proofs.answers.answer_line.Statement.{statement}
 use Rattle.frame_answers.proofs.answers.answer_line.Tie as tie
@@ -21,9 +18,6 @@ frame-is : (c : tie.After-parsed) →
 frame-is c =
     let p = c .before .before .before .parse in
     frame-of _ _ _ _ _ _ _ (omega (arith, length-replicate 496 (ofBits binary32 0))) (subst (ParsedAs _ _ _) (c .parsed .given .1) (p .ensures))
-
-few : (c : tie.After-parsed) → c .parsed .given .0 .1 .1 .1 .0 ≤ 496
-few c = let f = frame-is c in omega (arith, f .count-is, few-samples _ _ (f .means))
 
 slice-aggregate-parse : tie.Need-slice-aggregate-parse
 slice-aggregate-parse c = search needs
@@ -40,47 +34,19 @@ enum-told c = search needs
 returns : tie.Need-returns
 returns c =
     let s = c .before .before .before .before .before .before in
-    malformed-as (s .args .controller) _ (s .pre) (malformed-of _ _ _ (subst (ParsedAs _ _ _) (c .enum-told .given .1) (c .before .before .before .parse .ensures)))
-
-cast-analyze-input-audio : tie.Need-cast-analyze-input-audio
-cast-analyze-input-audio c = search needs
+    malformed-as (s .args .controller) _ _ _ _ (s .pre) (c .before .before .before .parse .ensures) (c .enum-told .given .1)
 
 array-share-prefix-samples : tie.Need-array-share-prefix-samples
-array-share-prefix-samples c = omega (arith, few (c .before), c .before .before .before .samples2 .given)
+array-share-prefix-samples c = omega (arith, few _ _ _ _ _ _ (frame-is (c .before)), c .before .before .before .samples2 .given)
 
-slice-aggregate-analyze-input-audio : tie.Need-slice-aggregate-analyze-input-audio
-slice-aggregate-analyze-input-audio c = omega (arith, few (c .before .before), length-take (c .before .before .parsed .given .0 .1 .1 .1 .0) (c .before .before .before .before .before .parse .last .1 .0))
+slice-aggregate-answer-frame : tie.Need-slice-aggregate-answer-frame
+slice-aggregate-answer-frame c = omega (arith, few _ _ _ _ _ _ (frame-is (c .before .before)), length-take (c .before .before .parsed .given .0 .1 .1 .1 .0) (c .before .before .before .before .before .parse .last .1 .0))
 
-analyze-input-audio-requires : tie.Need-analyze-input-audio-requires
-analyze-input-audio-requires c κs = search needs
-
-enum-known-answer : tie.Need-enum-known-answer
-enum-known-answer c = search needs
-
-enum-known-answer-2 : tie.Need-enum-known-answer-2
-enum-known-answer-2 c = search needs
-
-recommended-requires : tie.Need-recommended-requires
-recommended-requires c κs =
-    let a = c .before .before .before .before in
-    let t = a .before .before in (
-      a .analyze-input-audio .ensures .does .good,
-      pending-after _ _ _ _ _ _ _ (frame-is (t .before)) _ (toZ-pos w32 _ (omega arith)) _ (a .analyze-input-audio .ensures) _ (c .before .answer2 .given .1),
-    )
+answer-frame-requires : tie.Need-answer-frame-requires
+answer-frame-requires c κs = search needs
 
 returns-2 : tie.Need-returns-2
-returns-2 c =
-    let a = c .before .before .before .before in
-    let t = a .before .before in
-    refused-as _ _ _ _ _ _ _ (frame-is (t .before)) _ (toZ-pos w32 _ (omega arith)) _ (a .analyze-input-audio .ensures) _ (c .before .answer .given .1)
-
-returns-3 : tie.Need-returns-3
-returns-3 c =
-    let k = c .before in
-    let a = k .before .before .before .before in
-    let t = a .before .before in
-    accepted-as _ _ _ _ _ _ _ (frame-is (t .before)) _ (toZ-pos w32 _ (omega arith)) _ (a .analyze-input-audio .ensures) _ (k .before .answer2 .given .1)
-    _ (c .recommended .ensures)
+returns-2 c = c .answer-frame .ensures _ (makes-calls _ _ _ _ _ _ (frame-is (c .before .before .before)))
 
 pub answer-line-spec : {M : Type 1} → statement M
 answer-line-spec =
@@ -91,12 +57,7 @@ answer-line-spec =
     enum-known-parsed
     enum-told
     returns
-    cast-analyze-input-audio
     array-share-prefix-samples
-    slice-aggregate-analyze-input-audio
-    analyze-input-audio-requires
-    enum-known-answer
-    enum-known-answer-2
-    recommended-requires
-    returns-2
-    returns-3)
+    slice-aggregate-answer-frame
+    answer-frame-requires
+    returns-2)

@@ -1,170 +1,187 @@
--- `frame_answers::stream::Stream::feed` meets its contract: at each turn the stream is fed the rest of a line. Assumes nothing.
+-- `frame_answers::stream::Stream::feed` meets its contract: a line that has begun is ended, and then come those that lie within the piece. Assumes nothing.
 use mathlib.Core.Path.{_≡_, sym, ap, subst, _∙_}
-use mathlib.Core.List.{List, _++_}
-use Prim.Native.Nat.{ℕ, _+_, _-_, _≤_, _<_, _^_}
+use Prim.Native.Nat.{ℕ, _+_, _-_, _/_, _≤_, _<_, _^_}
 use native.Mathlib.Omega.{arith}
-use lib.ListN.{length, take, drop, length-drop}
-use lib.Seq.{take-all}
+use lib.ListN.{length, take}
+use lib.Seq.{length-take-le}
 use Rattle.frame_lines.specs.declared.lines.Feed.the-variants.{At, Nowhere}
-use Rattle.frame_lines.specs.Answer.{longest}
-use Rattle.frame_lines.specs.Stream.{ended}
-use Rattle.frame_lines.specs.Feeds.{feedFrom, kept}
-use Rattle.frame_answers.specs.Stream.{viewOf, Becomes, afterPiece}
-use Rattle.frame_answers.proofs.Turns.{SoFar, starts, out-length, found-at, text-room, goes-on, no-room, none-ends, ends-piece}
+use Rattle.frame_lines.specs.Feeds.{feedFrom}
+use Rattle.frame_lines.proofs.Answers.{answer-fits}
+use Rattle.frame_answers.specs.Stream.{State, viewOf, EndedAs, FedAs}
+use Rattle.frame_answers.proofs.Turns.{SoFar, starts, out-length, found-at, goes-on, no-room, none-ends, ends-piece}
+use Rattle.frame_answers.proofs.Rest.{then-rest}
+use Rattle.frame_answers.proofs.Whole.{used-within, written-within}
+use borrow.Rule.Slice.PartMut.{putMid}
 use borrow.Author.Needs.{needs}
 use Rattle.frame_answers.proofs.stream.Stream.feed.Statement.{statement}
 use Rattle.frame_answers.proofs.stream.Stream.feed.Tie as tie
 
-abbrev Inv-loop : tie.InvT-loop
-Inv-loop piece out₀ stream₀ at₀ written₀ room₀ out stream at written room = SoFar (viewOf stream₀) piece out₀ stream at written room out
-
-abbrev μ-loop : tie.MeasureT-loop
-μ-loop piece out₀ stream₀ at₀ written₀ room₀ out stream at written room = room
-
 -- the lengths of both slices fit
-fit : (c : tie.Start Inv-loop μ-loop) → (length (c .args .piece .now) < 2 ^ 64) × (length (c .args .out .now) < 2 ^ 64)
+fit : (c : tie.Start) → (length (c .args .piece .now) < 2 ^ 64) × (length (c .args .out .now) < 2 ^ 64)
 fit c = (omega arith, omega arith)
 
--- what holds where the next line feed is looked for
-so-far : (c : tie.After-next-feed Inv-loop μ-loop) → let l = c .before .before in let s = l .before .before .before in
-    SoFar (viewOf (s .args .self)) (s .args .piece .now) (s .args .out .now) (l .loop .stream) (l .loop .at) (l .loop .written) (l .loop .room) (l .loop .out)
-so-far c = c .before .before .loop .inv
+-- nothing was fed yet
+begins : (c : tie.Start) → let s = c .args in SoFar (viewOf (s .self)) (s .piece .now) (s .out .now) (s .self) 0 0 (length (s .out .now) / 5) (s .out .now)
+begins c = starts _ _ (c .args .self) (c .pre)
+
+-- where the next line feed was looked for: the beginning of this, and room for an answer
+abbrev start : tie.After-next-feed → tie.Start
+start c = c .before .before .before .before .before .before .before
+
+room : (c : tie.After-next-feed) → 0 < length (start c .args .out .now) / 5
+room c = omega (arith, c .before .if2 .left)
 
 -- it was found
-found : (c : tie.After-next Inv-loop μ-loop) → let l = c .before .before .before .before in feedFrom (l .before .before .before .args .piece .now) (l .loop .at) ≡ At (c .next .given .0 .0)
+found : (c : tie.After-next) → feedFrom (start (c .before .before) .args .piece .now) 0 ≡ At (c .next .given .0 .0)
 found c = sym (c .before .before .next-feed .ensures) ∙ c .next .given .1
 
-place : (c : tie.After-next Inv-loop μ-loop) → let l = c .before .before .before .before in (l .loop .at ≤ c .next .given .0 .0) × (c .next .given .0 .0 < length (l .before .before .before .args .piece .now))
-place c = found-at _ _ _ _ _ _ _ _ (so-far (c .before .before)) _ (found c) (c .before .before .before .loop-test .taken)
+place : (c : tie.After-next) → c .next .given .0 .0 < length (start (c .before .before) .args .piece .now)
+place c = let n = c .before .before in found-at _ _ _ _ _ _ _ _ (begins (start n)) _ (found c) (room n) .1
 
--- it was not, and this is left
-lost : (c : tie.After-enum-told Inv-loop μ-loop) → let l = c .before .before .before .before in feedFrom (l .before .before .before .args .piece .now) (l .loop .at) ≡ Nowhere
+-- it was not
+lost : (c : tie.After-enum-told) → feedFrom (start (c .before .before) .args .piece .now) 0 ≡ Nowhere
 lost c = sym (c .before .before .next-feed .ensures) ∙ c .enum-told .given .1
 
-behind : (c : tie.After-enum-told Inv-loop μ-loop) → let l = c .before .before .before .before in let p = l .before .before .before .args .piece .now in take (length p - l .loop .at) (drop (l .loop .at) p) ≡ drop (l .loop .at) p
-behind c =
-    let l = c .before .before .before .before in
-    let p = l .before .before .before .args .piece .now in
-    take-all (length p - l .loop .at) (drop (l .loop .at) p) (omega (arith, length-drop (l .loop .at) p))
+-- where the answer to the first line has been put: that line's end, and what holds behind it
+abbrev end : tie.After-put-reply → tie.After-next
+end c = c .before .before .before .before .before .before
 
--- the answer has room
-room : (c : tie.After-ended Inv-loop μ-loop) → let l = c .before .before .before .before .before .before .before in
-    (length (c .ended .result .text .bytes) ≡ longest) × (c .ended .result .text .length ≤ longest) × (l .loop .written + c .ended .result .text .length ≤ length (l .loop .out))
-room c =
-    let x = c .before .before .before in
-    let n = x .before .before in
-    text-room _ _ _ _ _ _ _ _ (so-far n) _ (found x) (n .before .loop-test .taken) (c .ended .result) (c .ended .ensures)
+abbrev first : tie.After-put-reply → tie.Start
+first c = start (end c .before .before)
 
-loop-holds : tie.Need-loop-holds Inv-loop μ-loop
-loop-holds c = let s = c .before .before in starts _ _ (s .args .self) (s .pre)
+so-far : (c : tie.After-put-reply) → let s = first c .args in
+    SoFar (viewOf (s .self)) (s .piece .now) (s .out .now) (c .before .before .before .ended .result .stream) (end c .next .given .0 .0 + 1) (c .put-reply .result) (length (s .out .now) / 5 - 1) (c .put-reply .last .0)
+so-far c =
+    let s = first c .args in
+    let e = c .before .before .before .ended in
+    let n : end c .next .given .0 .0 ≡ end c .next .given .0 .0 - 0 = omega arith in
+    goes-on _ _ _ _ _ _ _ _ (begins (first c)) _ (found (end c)) (room (end c .before .before)) (e .result)
+    (subst (λ (m : ℕ). EndedAs (viewOf (s .self)) (take m (s .piece .now)) (e .result)) n (e .ensures))
+    _ _ (c .put-reply .ensures)
 
-next-feed-requires : tie.Need-next-feed-requires Inv-loop μ-loop
+-- the part of the slice for the other answers, five bytes fewer, lies within it
+within : (c : tie.After-put-reply) → c .put-reply .result + (length (first c .args .out .now) - 5) ≤ length (c .put-reply .last .0)
+within c =
+    let o = out-length _ _ _ _ _ _ _ _ (so-far c) in
+    omega (arith, o, room (end c .before .before), c .put-reply .ensures .0, answer-fits (c .before .before .before .ended .result .reply) .within)
+
+-- where the others have been put too: what both lead to
+abbrev put-first : tie.After-out3 → tie.After-put-reply
+put-first c = c .before .before .before .before .before .before
+
+both : (c : tie.After-out3) →
+    let k = put-first c in
+    let s = first k .args in
+    let r = c .before .whole-lines2 .result in
+    let n = k .put-reply .result in
+    FedAs (viewOf (s .self)) (s .piece .now) (s .out .now) (putMid n (n + (length (s .out .now) - 5) - n) (k .put-reply .last .0) (c .before .whole-lines2 .last .1 .1 .0))
+    (record { stream = r .stream; used = r .used + (end k .next .given .0 .0 + 1); written = r .written + n })
+both c =
+    let k = put-first c in
+    let w = c .before .whole-lines2 in
+    then-rest _ _ _ _ _ _ _ _ (so-far k) _ (within k) (omega (arith, room (end k .before .before))) _ (c .out3 .given .0) (w .result) (w .ensures)
+
+whole-lines-requires : tie.Need-whole-lines-requires
+whole-lines-requires c κs = let s = c .before .before .before .before .before .before in (s .pre, ap (λ (n : ℕ). take n (s .args .self .begun .bytes)) (c .before .if1 .taken))
+
+same-length : tie.Need-same-length
+same-length c = search needs
+
+returns : tie.Need-returns
+returns c = search needs
+
+returns-2 : tie.Need-returns-2
+returns-2 c = no-room _ _ _ _ _ _ _ _ (begins (c .before .before .before .before .before .before)) (omega (arith, c .if2 .taken))
+
+next-feed-requires : tie.Need-next-feed-requires
 next-feed-requires c κs = search needs
 
-enum-known-next : tie.Need-enum-known-next Inv-loop μ-loop
+enum-known-next : tie.Need-enum-known-next
 enum-known-next c = search needs
 
-enum-told : tie.Need-enum-told Inv-loop μ-loop
+enum-told : tie.Need-enum-told
 enum-told c = search needs
 
-sub-keeping : tie.Need-sub-keeping Inv-loop μ-loop
-sub-keeping c = omega (arith, so-far (c .before .before) .within)
+keeping-requires : tie.Need-keeping-requires
+keeping-requires c κs = let n = c .before .before in (start n .pre, none-ends _ _ _ _ _ _ _ _ (begins (start n)) (lost c) (room n))
 
-part-keeping-start : tie.Need-part-keeping-start Inv-loop μ-loop
-part-keeping-start c = omega (arith, so-far (c .before .before) .within)
+returns-3 : tie.Need-returns-3
+returns-3 c = let n = c .before .before .before in ends-piece _ _ _ _ _ _ _ _ (begins (start n)) (lost (c .before)) (room n) _ (c .keeping .ensures)
 
-part-keeping-end : tie.Need-part-keeping-end Inv-loop μ-loop
-part-keeping-end c = omega (arith, so-far (c .before .before) .within)
+slice-aggregate-ended : tie.Need-slice-aggregate-ended
+slice-aggregate-ended c = let x = c .before .before in sym (length-take-le (x .next .given .0 .0) (start (x .before .before) .args .piece .now) (omega (arith, place x)))
 
-keeping-requires : tie.Need-keeping-requires Inv-loop μ-loop
-keeping-requires c κs =
-    let n = c .before .before .before in
-    let l = n .before .before in (
-      so-far n .becomes .good,
-      ap (λ (t : List ℕ). ended (kept (l .loop .stream .begun) ++ t)) (behind (c .before))
-          ∙ none-ends _ _ _ _ _ _ _ _ (so-far n) (lost (c .before)) (n .before .loop-test .taken),
-    )
+ended-requires : tie.Need-ended-requires
+ended-requires c κs = search needs
 
-same-length : tie.Need-same-length Inv-loop μ-loop
-same-length c = out-length _ _ _ _ _ _ _ _ (so-far (c .before .before .before .before))
+add-from : tie.Need-add-from
+add-from c = let x = c .before .before .before .before in omega (arith, place x, fit (start (x .before .before)) .0)
 
-returns : tie.Need-returns Inv-loop μ-loop
-returns c =
-    let e = c .before .before in
-    let n = e .before .before in
-    ends-piece _ _ _ _ _ _ _ _ (so-far n) (lost e) (n .before .loop-test .taken) (c .keeping .result)
-    (subst (λ (t : List ℕ). Becomes (afterPiece (viewOf (n .before .before .loop .stream)) t) (c .keeping .result)) (behind e) (c .keeping .ensures))
+put-reply-requires : tie.Need-put-reply-requires
+put-reply-requires c κs = search needs
 
-sub-ended : tie.Need-sub-ended Inv-loop μ-loop
-sub-ended c = omega (arith, place (c .before))
+add-stop : tie.Need-add-stop
+add-stop c = let k = c .before .before in omega (arith, within k, out-length _ _ _ _ _ _ _ _ (so-far k), fit (first k) .1)
 
-part-ended-start : tie.Need-part-ended-start Inv-loop μ-loop
-part-ended-start c = omega (arith, place (c .before))
+sub-whole-lines : tie.Need-sub-whole-lines
+sub-whole-lines c = omega (arith, place (end (c .before .before)))
 
-part-ended-end : tie.Need-part-ended-end Inv-loop μ-loop
-part-ended-end c = omega (arith, place (c .before))
+part-whole-lines-start : tie.Need-part-whole-lines-start
+part-whole-lines-start c = omega (arith, place (end (c .before .before)))
 
-ended-requires : tie.Need-ended-requires Inv-loop μ-loop
-ended-requires c κs = so-far (c .before .before .before .before) .becomes .good
+part-whole-lines-end : tie.Need-part-whole-lines-end
+part-whole-lines-end c = search needs
 
-put-requires : tie.Need-put-requires Inv-loop μ-loop
-put-requires c κs = room (c .before .before .before)
+sub-whole-lines-2 : tie.Need-sub-whole-lines-2
+sub-whole-lines-2 c = search needs
 
-add-written : tie.Need-add-written Inv-loop μ-loop
-add-written c =
-    let d = c .before .before .before .before .before .before .before in
-    let n = d .before .before .before .before .before in
-    omega (arith, room d .2, out-length _ _ _ _ _ _ _ _ (so-far n), fit (n .before .before .before .before .before) .1)
+part-whole-lines-start-2 : tie.Need-part-whole-lines-start-2
+part-whole-lines-start-2 c = search needs
 
-add-at : tie.Need-add-at Inv-loop μ-loop
-add-at c =
-    let x = c .before .before .before .before .before .before .before .before .before .before in
-    omega (arith, place x .1, fit (x .before .before .before .before .before .before .before) .0)
+part-whole-lines-end-2 : tie.Need-part-whole-lines-end-2
+part-whole-lines-end-2 c = omega (arith, within (c .before .before .before))
 
-sub-room : tie.Need-sub-room Inv-loop μ-loop
-sub-room c = search needs
+whole-lines-requires-2 : tie.Need-whole-lines-requires-2
+whole-lines-requires-2 c κs = let e = c .before .before .before .before .before .before .before .ended .ensures .stream in (e .good, ap (λ (x : State). x .kept) (e .is))
 
-loop-less : tie.Need-loop-less Inv-loop μ-loop
-loop-less c = search needs
+add-rest : tie.Need-add-rest
+add-rest c = let o = c .before .before in omega (arith, used-within _ _ _ _ _ (both o), fit (first (put-first o)) .0)
 
-loop-again : tie.Need-loop-again Inv-loop μ-loop
-loop-again c =
-    let d = c .before .before .before .before .before .before .before in
-    let x = d .before .before .before in
-    let n = x .before .before in
-    subst (SoFar _ _ _ _ _ _ _) (sym (c .before .before .before .put .ensures)) (goes-on _ _ _ _ _ _ _ _ (so-far n) _ (found x) (n .before .loop-test .taken) (d .ended .result) (d .ended .ensures))
+add-rest-2 : tie.Need-add-rest-2
+add-rest-2 c = let o = c .before .before .before in omega (arith, written-within _ _ _ _ _ (both o), o .out3 .given .1, fit (first (put-first o)) .1)
 
-same-length-2 : tie.Need-same-length-2 Inv-loop μ-loop
-same-length-2 c = out-length _ _ _ _ _ _ _ _ (c .before .loop .inv)
+same-length-2 : tie.Need-same-length-2
+same-length-2 c = search needs
 
-returns-2 : tie.Need-returns-2 Inv-loop μ-loop
-returns-2 c = no-room _ _ _ _ _ _ _ _ (c .before .loop .inv) (omega arith)
+returns-4 : tie.Need-returns-4
+returns-4 c = both (c .before .before .before)
 
 pub feed-spec : {M : Type 1} → statement M
 feed-spec =
     tie.close
     (tie.spec
-    Inv-loop
-    μ-loop
-    loop-holds
+    whole-lines-requires
+    same-length
+    returns
+    returns-2
     next-feed-requires
     enum-known-next
     enum-told
-    sub-keeping
-    part-keeping-start
-    part-keeping-end
     keeping-requires
-    same-length
-    returns
-    sub-ended
-    part-ended-start
-    part-ended-end
+    returns-3
+    slice-aggregate-ended
     ended-requires
-    put-requires
-    add-written
-    add-at
-    sub-room
-    loop-less
-    loop-again
+    add-from
+    put-reply-requires
+    add-stop
+    sub-whole-lines
+    part-whole-lines-start
+    part-whole-lines-end
+    sub-whole-lines-2
+    part-whole-lines-start-2
+    part-whole-lines-end-2
+    whole-lines-requires-2
+    add-rest
+    add-rest-2
     same-length-2
-    returns-2)
+    returns-4)
