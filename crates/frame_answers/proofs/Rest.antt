@@ -25,7 +25,7 @@ laid-behind t x out =
     ∙ ap (λ (l : List ℕ). (t ++ x) ++ l) (drop-drop (length x) (length t) out ∙ ap (λ (n : ℕ). drop n out) (sym (length-append t x)))
 
 module _ (self : State) (piece out₀ : List ℕ) (s : Stream) (at written room : ℕ) (out : List ℕ) (h : SoFar self piece out₀ s at written room out) (n : ℕ) where
-  -- the rest, and as many places for its answers
+  -- the rest, as a part of the piece to its end; and, as a part of the slice between two places, n places for its answers
   abbrev rest : List ℕ
   rest = take (length piece - at) (drop at piece)
 
