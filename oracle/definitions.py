@@ -195,6 +195,11 @@ EDITS = [
     ("the least drop of all channels counts, not the largest of their least", "MarkedExactly", [
         (PREDICTOR + "AllRings.antt", "use Prim.Native.Nat.{ℕ, max}", "use Prim.Native.Nat.{ℕ, min, max}"),
         (PREDICTOR + "AllRings.antt", "low = max (a .low) (b .low); high", "low = min (a .low) (b .low); high")]),
+    # ---- levels of several channels
+    ("two channels of unequal length are measured", "RefusedBelow", [
+        (RING + "Level.antt", "measuredTwoIf (isMeasured first && eqb (length first) (length second)) first second", "measuredTwoIf (isMeasured first && true) first second")]),
+    ("nine channels are refused for the frame's size", "RefusedBelow", [
+        (PREDICTOR + "FrameLevels.antt", "measuringIf false fits = Refused ChannelCount", "measuringIf false fits = Refused FrameSize")]),
 ]
 
 
@@ -216,7 +221,7 @@ def types_alone(text):
     """The source without its functions, and without the lines that name them."""
     out, lines, i = [], text.split("\n"), 0
     while i < len(lines):
-        if re.match(r'(pub )?(extern "C" )?fn |impl ', lines[i]):
+        if re.match(r'(pub(\(crate\))? )?(extern "C" )?fn |impl ', lines[i]):
             while out and out[-1].startswith(("//", "#[no_mangle]")):
                 out.pop()
             while lines[i] != "}":
