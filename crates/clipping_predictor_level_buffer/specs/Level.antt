@@ -40,8 +40,11 @@ measuredIf true samples = Measured.the-variants.Level (frameRecord samples)
 measuredIf false samples = Refused FrameSize
 
 -- cause 9 of one channel: "samples per channel not 1 to 480"
+abbrev pub isFrameSize : ℕ → Bool
+isFrameSize n = leb 1 n && leb n maxSamplesPerChannel
+
 abbrev pub isMeasured : List Float → Bool
-isMeasured samples = leb 1 (length samples) && leb (length samples) maxSamplesPerChannel
+isMeasured samples = isFrameSize (length samples)
 
 unfoldable pub measureOf : List Float → Measured
 measureOf samples = measuredIf (isMeasured samples) samples

@@ -1,16 +1,24 @@
 -- What a line leads to, by the tests on the way, and from what the calls that it makes say. Assumes nothing.
 use mathlib.Core.Path.{_≡_, refl, sym, ap, subst, _∙_}
-use mathlib.Core.Bool.{Bool}
-use mathlib.Core.List.{List}
-use mathlib.Core.Option.{none, some}
-use Prim.Native.Nat.{ℕ, _≤_}
+use mathlib.Core.Bool.{Bool, true, false, _&&_}
+use mathlib.Core.List.{List, map}
+use mathlib.Core.Option.{Option, none, some}
+use Prim.Native.Nat.{ℕ, _*_, _≤_, _<_}
 use native.Mathlib.Omega.{arith}
+use lib.Dec.{leb, eqb}
+use borrow.Author.Tests.{le-ltb}
 use lib.IntN.{ℤ, pos}
 use lib.Ieee.{Float}
 use lib.ListN.{length, take, length-map}
 use Rattle.numbers.specs.declared.refusal.Refusal.{Refusal}
-use Rattle.numbers.specs.declared.refusal.Refusal.the-variants.{FrameLine}
+use Rattle.numbers.specs.declared.refusal.Refusal.the-variants.{FrameLine, FrameSize}
 use Rattle.numbers.specs.Refusal.{numberOf}
+use Rattle.numbers.proofs.Signs.{clash}
+use Rattle.numbers.proofs.Ranges.{inside}
+use Rattle.clipping_predictor_level_buffer.specs.Level.{maxSamplesPerChannel, isFrameSize}
+use Rattle.clipping_predictor.specs.Predictor.{frameFits}
+use Rattle.mono_input_volume_controller.specs.MonoState.{maxInputVolume}
+use Rattle.input_volume_controller.specs.Frame.{unlessRefused, analyzeInputAudio}
 use Rattle.mono_input_volume_controller.specs.declared.speech_level.SpeechLevel.{SpeechLevel}
 use Rattle.input_volume_controller.specs.declared.Analysis.{Analysis}
 use Rattle.input_volume_controller.specs.declared.Analysis.the-variants as Analysis
@@ -21,12 +29,16 @@ use Rattle.input_volume_controller.specs.Reply.{Reply, mark, refusal, analysisS
 use Rattle.input_volume_controller.specs.Calls.{Call, frame, recommendation, step, AnalyzedOf}
 use Rattle.frame_lines.specs.declared.answer.Reply.the-variants.{Refused}
 use Rattle.frame_lines.specs.declared.line.Parsed.{Parsed}
+use Rattle.frame_lines.specs.declared.line.Parsed.the-variants as Parsed
 use Rattle.frame_lines.specs.declared.line.Parsed.the-variants.{Malformed}
 use Rattle.frame_lines.specs.Line.{Fields, mostSamples, meaning}
-use Rattle.frame_lines.specs.Parsed.{sampleOf, ParsedAs}
-use Rattle.frame_lines.proofs.Meanings.{FrameOf, malformed-of, few-samples}
+use Rattle.frame_lines.specs.Parsed.{floatOf, speechLevelOf, parsedOf, sampleOf, ParsedAs}
+use Rattle.frame_lines.proofs.Meanings.{FrameOf, few-samples, small-volume}
 use Rattle.frame_answers.specs.declared.answers.Answered.{Answered}
 use Rattle.frame_answers.specs.LineStep.{frameCall, recommendationCall, LineStep, refusedLine, recommendedLine, afterFrame, meantStep, lineStep}
+use Rattle.frame_answers.specs.declared.stream.Ready.{Ready}
+use Rattle.frame_answers.specs.declared.stream.Ready.the-variants as Ready
+use Rattle.frame_answers.specs.Ready.{sizedIf, readyOf}
 use Rattle.frame_answers.specs.Answered.{Leads, AnsweredAs, VolumePending, RecommendedAs, Makes, FrameAnsweredAs}
 use Rattle.frame_answers.proofs.Recommended.{frame-pending}
 
@@ -46,21 +58,67 @@ module _ (c : Controller) (line : List ℕ) where
     unfolding lineStep
     line-marked near r = ap (meantStep c) e ∙ ap (λ (x : Reply). afterFrame f c x (step c (frameCall f) .state)) r
 
+-- ---- a frame that no controller takes
+
+either-false : (a b c : Bool) → (a && b) ≡ false → (a && (b && c)) ≡ false
+either-false true true c e = clash e
+either-false true false c e = refl
+either-false false b c e = refl
+
+misfits : (k n : ℕ) (lent : List Float) → isFrameSize n ≡ false → frameFits k n lent ≡ false
+unfolding frameFits
+misfits k n lent e = either-false (leb 1 n) (leb n maxSamplesPerChannel) (eqb (length lent) (k * n)) e
+
+unfit : (c : Controller) (v n : ℕ) (lent : List Float) → v < 256 → isFrameSize n ≡ false → step c (frame (pos v) n lent) .reply ≡ refusal (numberOf FrameSize)
+unfolding analyzeInputAudio
+unfit c v n lent h e = λ i. unlessRefused (sym (inside 0 maxInputVolume (pos v) (le-ltb v 0 (omega arith)) (omega arith) (omega arith)) i) (misfits (length (c .control .channels)) n lent e i) n lent c .reply
+
 -- ---- what the calls say
 
 leads-as : (s t : LineStep) (r : Answered) → s ≡ t → Leads s r → Leads t r
 leads-as s t r e h = subst (λ (x : LineStep). Leads x r) e h
 
+-- every controller refuses a line that is malformed, or whose frame has no size that can fit
+module _ (c : Controller) (line : List ℕ) (cause : Refusal) where
+  sized-if : (f : Fields) → meaning line ≡ some f → (b : Bool) → isFrameSize (length (f .samples)) ≡ b → (p : Float) (l : SpeechLevel) → sizedIf b (f .volume) p l (length (f .samples)) ≡ Ready.Refused cause
+      → lineStep c line ≡ refusedLine (numberOf cause) c
+  sized-if f m true s p l e = let z : _≡_ {A = ℕ} 0 1 = cc in absurd (omega arith)
+  sized-if f m false s p l e =
+      let is : FrameSize ≡ cause = cc in
+      line-refused c line f m (numberOf FrameSize) (unfit c (f .volume) (length (f .samples)) (map sampleOf (f .samples)) (small-volume line f m) s)
+      ∙ ap (λ (x : Refusal). refusedLine (numberOf x) c) is
+
+  ready-if : (o : Option Fields) → meaning line ≡ o → readyOf (parsedOf o) ≡ Ready.Refused cause → lineStep c line ≡ refusedLine (numberOf cause) c
+  ready-if none m e = let is : FrameLine ≡ cause = cc in line-malformed c line m ∙ ap (λ (x : Refusal). refusedLine (numberOf x) c) is
+  ready-if (some f) m e = sized-if f m (isFrameSize (length (f .samples))) refl (floatOf (f .probability)) (speechLevelOf (f .level)) e
+
+pub refused-early : (self : InputVolumeController) (line : List ℕ) (before after : List Float) (parsed : Parsed) (cause : Refusal) → Good self → ParsedAs line before after parsed → readyOf parsed ≡ Ready.Refused cause
+    → AnsweredAs self line (record { controller = self; reply = Refused cause })
+refused-early self line before after parsed cause good p e = record {
+  leads = leads-as _ _ _ (sym (ready-if (viewOf self) line cause (meaning line) refl (ap readyOf (sym (p .answer-is)) ∙ e)))
+      (record { good = good; reply = refl; view = refl });
+  same = λ other q. refl;
+}
+
 -- `parse` has found a line malformed
 pub malformed-as : (self : InputVolumeController) (line : List ℕ) (before after : List Float) (parsed : Parsed) → Good self → ParsedAs line before after parsed → parsed ≡ Malformed
     → AnsweredAs self line (record { controller = self; reply = Refused FrameLine })
-malformed-as self line before after parsed good p e = record {
-  leads = leads-as _ _ _ (sym (line-malformed (viewOf self) line (malformed-of line before after (subst (ParsedAs line before after) e p))))
-      (record { good = good; reply = refl; view = refl });
-  same = λ cause q. refl;
-}
+malformed-as self line before after parsed good p e = refused-early self line before after parsed FrameLine good p (ap readyOf e)
 
--- it has found one in order: its samples have room, and these are its calls
+-- a frame that is ready is the one that was parsed
+abbrev isFrame : Ready → Bool
+isFrame (Ready.Refused cause) = false
+isFrame (Ready.Frame v p l n) = true
+
+frame-if : (v n : ℕ) (p : Float) (l : SpeechLevel) (r : Ready) (b : Bool) → sizedIf b v p l n ≡ r → isFrame r ≡ true → Ready.Frame v p l n ≡ r
+frame-if v n p l r true e f = e
+frame-if v n p l r false e f = clash (sym (ap isFrame e ∙ f))
+
+pub was-parsed : (parsed : Parsed) (v : ℕ) (p : Float) (l : SpeechLevel) (n : ℕ) → readyOf parsed ≡ Ready.Frame v p l n → parsed ≡ Parsed.Frame v p l n
+was-parsed Parsed.Malformed v p l n e = let z : _≡_ {A = ℕ} 0 1 = cc in absurd (omega arith)
+was-parsed (Parsed.Frame w q m k) v p l n e = let is = frame-if w k q m (Ready.Frame v p l n) (isFrameSize k) e refl in cc
+
+-- `parse` has found a line in order: its samples have room, and these are its calls
 pub few : (line : List ℕ) (after : List Float) (v : ℕ) (p : Float) (l : SpeechLevel) (n : ℕ) → FrameOf line after v p l n → n ≤ mostSamples
 few line after v p l n f = omega (arith, f .count-is, few-samples line (f .meant) (f .means))
 

@@ -1,4 +1,5 @@
 pub mod LineStep
 pub mod Texts
 pub mod Answered
+pub mod Ready
 pub mod Stream

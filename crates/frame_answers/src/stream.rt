@@ -7,9 +7,11 @@ ghost use mathlib.Core.List.{[], _++_};
 ghost use Rattle.frame_lines.specs.Answer.{longest, answerOf, held};
 ghost use Rattle.frame_lines.specs.Stream.{ended};
 ghost use Rattle.frame_lines.specs.Feeds.{kept};
+ghost use Rattle.frame_answers.specs.Ready.{sizedOf, readyOf};
 ghost use Rattle.frame_answers.specs.Stream.{viewOf, Good, Becomes, freshState, afterPiece, finishedText, FedAs, EndedAs};
 use crate::answers::answer_frame;
 use crate::answers::answer_line;
+use clipping_predictor_level_buffer::level::MAX_SAMPLES_PER_CHANNEL;
 use frame_lines::answer::LONGEST;
 use frame_lines::answer::Reply;
 use frame_lines::answer::Text;
@@ -22,6 +24,7 @@ use frame_lines::lines::Feed;
 use frame_lines::lines::next_feed;
 use input_volume_controller::InputVolumeController;
 use mono_input_volume_controller::config::default_config;
+use mono_input_volume_controller::speech_level::SpeechLevel;
 use numbers::refusal::Refusal;
 
 pub struct Stream {
@@ -40,6 +43,35 @@ pub struct Fed {
 struct Ended {
     stream: Stream,
     reply: Reply,
+}
+
+// A line before a controller hears of it: refused whatever the controller is, or a frame of a size that may fit.
+enum Ready {
+    Refused(Refusal),
+    Frame(u8, f32, SpeechLevel, usize),
+}
+
+// A line in order: a frame without samples, or with more than a channel has, is refused by every controller.
+fn sized(volume: u8, probability: f32, level: SpeechLevel, n: usize) -> Ready
+    ensures { λ r. ⌜ r ≡ sizedOf volume probability level n ⌝ }
+{
+    if n < 1 {
+        return Ready::Refused(Refusal::FrameSize);
+    }
+    if MAX_SAMPLES_PER_CHANNEL < n {
+        return Ready::Refused(Refusal::FrameSize);
+    }
+    Ready::Frame(volume, probability, level, n)
+}
+
+// Any line, as it was parsed.
+fn made_ready(parsed: Parsed) -> Ready
+    ensures { λ r. ⌜ r ≡ readyOf parsed ⌝ }
+{
+    match parsed {
+        Parsed::Malformed => Ready::Refused(Refusal::FrameLine),
+        Parsed::Frame(volume, probability, level, n) => sized(volume, probability, level, n),
+    }
 }
 
 // A text from a place on.
@@ -111,7 +143,7 @@ impl Stream {
         }
     }
 
-    // `feed` where no line has begun: every line lies within the piece. One that is malformed leaves the controller where it is.
+    // `feed` where no line has begun: every line lies within the piece. One that every controller refuses is answered without it.
     fn whole_lines(self, piece: &[u8], out: &mut [u8]) -> Fed
         requires { ⌜ Good self × (kept (self .begun) ≡ []) ⌝ }
         ensures { λ r. ⌜ FedAs (viewOf self) (now (piece .entry)) (now (out .entry)) (now (out .exit)) r ⌝ }
@@ -132,17 +164,20 @@ impl Stream {
                     written,
                 };
             };
-            let parsed = parse(&piece[at..end], &mut samples);
+            let ready = made_ready(parse(&piece[at..end], &mut samples));
             at = end + 1;
             room -= 1;
-            let Parsed::Frame(volume, probability, level, n) = parsed else {
-                written = put_reply(out, written, Reply::Refused(Refusal::FrameLine));
-                continue;
-            };
-            let answered = answer_frame(controller, volume, probability, level, &samples[..n]);
-            controller = answered.controller;
-            let reply = answered.reply;
-            written = put_reply(out, written, reply);
+            match ready {
+                Ready::Refused(cause) => {
+                    written = put_reply(out, written, Reply::Refused(cause));
+                }
+                Ready::Frame(volume, probability, level, n) => {
+                    let done = answer_frame(controller, volume, probability, level, &samples[..n]);
+                    controller = done.controller;
+                    let reply = done.reply;
+                    written = put_reply(out, written, reply);
+                }
+            }
         }
         Fed {
             stream: Stream { controller, begun },

@@ -13,12 +13,16 @@ use lib.ListN.{length, take, length-take, length-map, length-drop}
 use lib.Seq.{take-all}
 use borrow.Author.Tests.{lt-leb, leb-true}
 use Rattle.mono_input_volume_controller.specs.declared.speech_level.SpeechLevel.{SpeechLevel}
-use Rattle.frame_lines.specs.declared.line.Parsed.the-variants.{Malformed, Frame}
+use Rattle.frame_lines.specs.declared.line.Parsed.the-variants.{Frame}
+use Rattle.frame_lines.specs.Digits.{areDigits}
 use Rattle.frame_lines.specs.Samples.{areSamples}
-use Rattle.frame_lines.specs.Line.{Fields, mostCharacters, mostSamples, isDashed, samplesStart, sampleText, headIsGood, isFramed, isWellFormed, fieldsOf, meaningIf, meaning}
+use Rattle.frame_lines.specs.Line.{Fields, mostCharacters, mostSamples, part, isBlank, isDashed, levelIsGood, samplesStart, sampleText, headIsGood, isFramed, isWellFormed, fieldsOf, meaningIf, meaning}
 use Rattle.frame_lines.specs.Parsed.{floatOf, speechLevelOf, parsedOf, sampleOf, samplesRead, over, ParsedAs}
 use Rattle.frame_lines.specs.Stream.{keptCharacters, cut}
-use Rattle.frame_lines.proofs.Tests.{both}
+use Rattle.frame_lines.proofs.Tests.{Both, both}
+use Rattle.frame_lines.proofs.Counted.{two-below}
+use Rattle.frame_lines.proofs.Parts.{part-two}
+use Rattle.frame_lines.proofs.Heads.{blank-within}
 use Rattle.frame_lines.proofs.SampleTexts.{fours}
 
 too-long : (line : List ℕ) → mostCharacters < length line → meaning line ≡ none
@@ -54,6 +58,24 @@ module _ (line : List ℕ) (f : Fields) (e : meaning line ≡ some f) where
   pub samples-read : samplesRead line ≡ map sampleOf (f .samples)
   unfolding samplesRead fieldsOf
   samples-read = (simp framed) ∙ ap (λ (g : Fields). map sampleOf (g .samples)) fields
+
+  -- its volume is of two digits
+  head : headIsGood line ≡ true
+  unfolding isFramed
+  head = both (leb (length line) mostCharacters) (headIsGood line) framed .second
+
+  volume-good : Both (areDigits (part line 0 2)) (isBlank line 2)
+  unfolding headIsGood
+  volume-good =
+      let first = areDigits (part line 0 2) && isBlank line 2 in
+      let second = areDigits (part line 3 8) && isBlank line 11 in
+      both (areDigits (part line 0 2)) (isBlank line 2) (both first second (both (first && second) (levelIsGood (isDashed line) line) head .first) .first)
+
+  pub small-volume : f .volume < 256
+  unfolding fieldsOf
+  small-volume =
+      let g = volume-good in
+      omega (arith, two-below (part-two line 0 (omega (arith, blank-within line 2 (g .second)))) (g .first), ap (λ (g : Fields). g .volume) fields)
 
 -- they are the first of the slice, where it has room
 pub first-over : (xs ys : List Float) → length xs ≤ length ys → take (length xs) (over xs ys) ≡ xs
@@ -118,10 +140,3 @@ module _ (line : List ℕ) (before after : List Float) where
 
   pub frame-of : (v : ℕ) (p : Float) (l : SpeechLevel) (n : ℕ) → mostSamples ≤ length before → ParsedAs line before after (Frame v p l n) → FrameOf line after v p l n
   frame-of v p l n room r = frame-if v p l n room (r .lent-is) (meaning line) refl (r .answer-is)
-
-  malformed-if : (o : Option Fields) → Malformed ≡ parsedOf o → o ≡ none
-  malformed-if none e = refl
-  malformed-if (some f) e = let z : _≡_ {A = ℕ} 0 1 = cc in absurd (omega arith)
-
-  pub malformed-of : ParsedAs line before after Malformed → meaning line ≡ none
-  malformed-of r = malformed-if (meaning line) (r .answer-is)

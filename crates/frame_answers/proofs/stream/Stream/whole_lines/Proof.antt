@@ -13,7 +13,7 @@ use Rattle.frame_lines.specs.Parsed.{ParsedAs}
 use Rattle.frame_lines.proofs.Meanings.{FrameOf, frame-of}
 use Rattle.frame_answers.specs.declared.stream.Stream.{Stream}
 use Rattle.frame_answers.specs.Stream.{viewOf, Becomes, afterPiece}
-use Rattle.frame_answers.proofs.Lines.{malformed-as, few, makes-calls}
+use Rattle.frame_answers.proofs.Lines.{refused-early, was-parsed, few, makes-calls}
 use Rattle.frame_answers.proofs.Turns.{to-end, SoFar, starts, out-length, found-at, reply-room, goes-on, no-room, none-ends, ends-piece}
 use Rattle.frame_answers.proofs.Streams.{ends-within}
 use borrow.Author.Needs.{needs}
@@ -56,18 +56,24 @@ lost c = sym (c .before .before .next-feed .ensures) ∙ c .enum-told .given .1
 behind : (c : tie.After-enum-told Inv-loop μ-loop) → let n = c .before .before in let p = start n .args .piece .now in let at = n .before .before .loop .at in take (length p - at) (drop at p) ≡ drop at p
 behind c = let n = c .before .before in to-end (n .before .before .loop .at) (start n .args .piece .now)
 
--- where a line has been parsed: its end, and what `parse` says of it if it is in order
-abbrev end : tie.After-parsed Inv-loop μ-loop → tie.After-next Inv-loop μ-loop
-end c = c .before .before .before .before .before .before .before
+-- where a line has been made ready: its end, and the place where it was looked for
+abbrev end : tie.After-made-ready Inv-loop μ-loop → tie.After-next Inv-loop μ-loop
+end c = c .before .before .before .before .before .before
 
-frame-is : (c : tie.After-parsed Inv-loop μ-loop) →
-    let n = end c .before .before in
+abbrev sought : tie.After-made-ready Inv-loop μ-loop → tie.After-next-feed Inv-loop μ-loop
+sought c = end c .before .before
+
+-- what `parse` says of a line whose frame is to be heard
+frame-is : (c : tie.After-ready2 Inv-loop μ-loop) →
+    let m = c .before .before in
+    let n = sought m in
     let at = n .before .before .loop .at in
-    let g = c .parsed .given .0 in
-    FrameOf (take (end c .next .given .0 .0 - at) (drop at (start n .args .piece .now))) (c .before .before .before .parse .last .1 .0) (g .0) (g .1 .0) (g .1 .1 .0) (g .1 .1 .1 .0)
+    let g = c .ready2 .given .0 in
+    FrameOf (take (end m .next .given .0 .0 - at) (drop at (start n .args .piece .now))) (m .before .before .parse .last .1 .0) (g .0) (g .1 .0) (g .1 .1 .0) (g .1 .1 .1 .0)
 frame-is c =
-    let n = end c .before .before in
-    frame-of _ _ _ _ _ _ _ (omega (arith, n .before .before .loop .inv .0)) (subst (ParsedAs _ _ _) (c .parsed .given .1) (c .before .before .before .parse .ensures))
+    let m = c .before .before in
+    let p = m .before .before .parse in
+    frame-of _ _ _ _ _ _ _ (omega (arith, sought m .before .before .loop .inv .0)) (subst (ParsedAs _ _ _) (was-parsed _ _ _ _ _ (sym (m .made-ready .ensures) ∙ c .ready2 .given .1)) (p .ensures))
 
 loop-holds : tie.Need-loop-holds Inv-loop μ-loop
 loop-holds c = let s = c .before .before .before .before in (length-replicate 496 (ofBits binary32 0), starts _ _ (s .args .self) (s .pre .0))
@@ -123,59 +129,65 @@ slice-aggregate-parse c = sym (c .before .before .before .before .before .before
 parse-requires : tie.Need-parse-requires Inv-loop μ-loop
 parse-requires c κs = search needs
 
+made-ready-requires : tie.Need-made-ready-requires Inv-loop μ-loop
+made-ready-requires c κs = search needs
+
 add-at : tie.Need-add-at Inv-loop μ-loop
-add-at c = let x = c .before .before .before .before .before in omega (arith, place x .1)
+add-at c = omega (arith, place (end c) .1)
 
 sub-room : tie.Need-sub-room Inv-loop μ-loop
 sub-room c = search needs
 
-enum-known-parsed : tie.Need-enum-known-parsed Inv-loop μ-loop
-enum-known-parsed c = search needs
-
-enum-told-2 : tie.Need-enum-told-2 Inv-loop μ-loop
-enum-told-2 c = search needs
+enum-known-ready : tie.Need-enum-known-ready Inv-loop μ-loop
+enum-known-ready c = search needs
 
 put-reply-requires : tie.Need-put-reply-requires Inv-loop μ-loop
-put-reply-requires c κs = room (c .before .before .before .before .before .before .before .before .before .before)
+put-reply-requires c κs = room (sought (c .before .before .before .before))
 
 loop-less : tie.Need-loop-less Inv-loop μ-loop
 loop-less c = search needs
 
 loop-again : tie.Need-loop-again Inv-loop μ-loop
 loop-again c =
-    let m = c .before .before .before .before in
-    let x = m .before .before .before .before .before .before .before in
-    let n = x .before .before in
+    let r = c .before .before .before .before .before in
+    let m = r .before .before in
+    let n = sought m in
     let g = so-far n .becomes .good in (
-      m .before .before .samples2 .given,
-      goes-on _ _ _ _ _ _ _ _ (so-far n) _ (found x) (n .before .loop-test .taken) _
-          (ends-within (stream n) g (start n .pre .1) _ _ (malformed-as _ _ _ _ _ (g .controller) (m .before .before .before .parse .ensures) (m .enum-told2 .given .1)))
+      m .before .samples2 .given,
+      goes-on _ _ _ _ _ _ _ _ (so-far n) _ (found (end m)) (n .before .loop-test .taken) _
+          (ends-within (stream n) g (start n .pre .1) _ _ (refused-early _ _ _ _ _ _ (g .controller) (m .before .before .parse .ensures) (sym (m .made-ready .ensures) ∙ r .ready .given .1)))
           _ _ (c .before .before .put-reply .ensures),
     )
 
+enum-known-ready-2 : tie.Need-enum-known-ready-2 Inv-loop μ-loop
+enum-known-ready-2 c = search needs
+
 array-share-prefix-samples : tie.Need-array-share-prefix-samples Inv-loop μ-loop
-array-share-prefix-samples c = omega (arith, few _ _ _ _ _ _ (frame-is (c .before)), c .before .before .before .samples2 .given)
+array-share-prefix-samples c = omega (arith, few _ _ _ _ _ _ (frame-is (c .before)), c .before .before .before .before .samples2 .given)
 
 slice-aggregate-answer-frame : tie.Need-slice-aggregate-answer-frame Inv-loop μ-loop
-slice-aggregate-answer-frame c = omega (arith, few _ _ _ _ _ _ (frame-is (c .before .before)), length-take (c .before .before .parsed .given .0 .1 .1 .1 .0) (c .before .before .before .before .before .parse .last .1 .0))
+slice-aggregate-answer-frame c =
+    let r = c .before .before in
+    omega (arith, few _ _ _ _ _ _ (frame-is r), length-take (r .ready2 .given .0 .1 .1 .1 .0) (r .before .before .before .before .parse .last .1 .0))
 
 answer-frame-requires : tie.Need-answer-frame-requires Inv-loop μ-loop
-answer-frame-requires c κs = so-far (c .before .before .before .before .before .before .before .before .before .before .before) .becomes .good .controller
+answer-frame-requires c κs = so-far (sought (c .before .before .before .before)) .becomes .good .controller
 
 put-reply-requires-2 : tie.Need-put-reply-requires-2 Inv-loop μ-loop
-put-reply-requires-2 c κs = room (c .before .before .before .before .before .before .before .before .before .before .before .before .before .before)
+put-reply-requires-2 c κs = room (sought (c .before .before .before .before .before .before .before))
 
 loop-less-2 : tie.Need-loop-less-2 Inv-loop μ-loop
-loop-less-2 c = let n = c .before .before .before .before .before .before .before .before .before .before .before .before .before .before .before .before .before in omega (arith, n .before .loop-test .taken)
+loop-less-2 c = let n = sought (c .before .before .before .before .before .before .before .before .before .before) in omega (arith, n .before .loop-test .taken)
 
 loop-again-2 : tie.Need-loop-again-2 Inv-loop μ-loop
 loop-again-2 c =
     let a = c .before .before .before .before .before in
-    let m = a .before .before .before in
-    let n = end m .before .before in (
-      m .before .before .samples2 .given,
+    let r = a .before .before .before in
+    let m = r .before .before in
+    let n = sought m in (
+      m .before .samples2 .given,
       goes-on _ _ _ _ _ _ _ _ (so-far n) _ (found (end m)) (n .before .loop-test .taken) _
-          (ends-within (stream n) (so-far n .becomes .good) (start n .pre .1) _ _ (a .answer-frame .ensures _ (makes-calls _ _ _ _ _ _ (frame-is m))))
+          (ends-within (stream n) (so-far n .becomes .good) (start n .pre .1) _ _ (a .answer-frame .ensures _ (makes-calls _ _ _ _ _ _ (frame-is r))))
           _ _ (c .before .before .put-reply2 .ensures),
     )
 
@@ -206,13 +218,14 @@ whole-lines-spec =
     part-parse-end
     slice-aggregate-parse
     parse-requires
+    made-ready-requires
     add-at
     sub-room
-    enum-known-parsed
-    enum-told-2
+    enum-known-ready
     put-reply-requires
     loop-less
     loop-again
+    enum-known-ready-2
     array-share-prefix-samples
     slice-aggregate-answer-frame
     answer-frame-requires
