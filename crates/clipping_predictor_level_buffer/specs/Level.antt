@@ -43,6 +43,7 @@ measuredIf false samples = Refused FrameSize
 abbrev pub isFrameSize : ℕ → Bool
 isFrameSize n = leb 1 n && leb n maxSamplesPerChannel
 
+-- a channel's samples are so many
 abbrev pub isMeasured : List Float → Bool
 isMeasured samples = isFrameSize (length samples)
 

@@ -60,14 +60,14 @@ module _ (c : Controller) (line : List ℕ) where
 
 -- ---- a frame that no controller takes
 
-either-false : (a b c : Bool) → (a && b) ≡ false → (a && (b && c)) ≡ false
-either-false true true c e = clash e
-either-false true false c e = refl
-either-false false b c e = refl
+still-false : (a b c : Bool) → (a && b) ≡ false → (a && (b && c)) ≡ false
+still-false true true c e = clash e
+still-false true false c e = refl
+still-false false b c e = refl
 
 misfits : (k n : ℕ) (lent : List Float) → isFrameSize n ≡ false → frameFits k n lent ≡ false
 unfolding frameFits
-misfits k n lent e = either-false (leb 1 n) (leb n maxSamplesPerChannel) (eqb (length lent) (k * n)) e
+misfits k n lent e = still-false (leb 1 n) (leb n maxSamplesPerChannel) (eqb (length lent) (k * n)) e
 
 unfit : (c : Controller) (v n : ℕ) (lent : List Float) → v < 256 → isFrameSize n ≡ false → step c (frame (pos v) n lent) .reply ≡ refusal (numberOf FrameSize)
 unfolding analyzeInputAudio

@@ -55,10 +55,6 @@ module _ (line : List ℕ) (f : Fields) (e : meaning line ≡ some f) where
   unfolding meaning
   fields = kept-if line f (isWellFormed line) e
 
-  pub samples-read : samplesRead line ≡ map sampleOf (f .samples)
-  unfolding samplesRead fieldsOf
-  samples-read = (simp framed) ∙ ap (λ (g : Fields). map sampleOf (g .samples)) fields
-
   -- its volume is of two digits
   head : headIsGood line ≡ true
   unfolding isFramed
@@ -76,6 +72,10 @@ module _ (line : List ℕ) (f : Fields) (e : meaning line ≡ some f) where
   small-volume =
       let g = volume-good in
       omega (arith, two-below (part-two line 0 (omega (arith, blank-within line 2 (g .second)))) (g .first), ap (λ (g : Fields). g .volume) fields)
+
+  pub samples-read : samplesRead line ≡ map sampleOf (f .samples)
+  unfolding samplesRead fieldsOf
+  samples-read = (simp framed) ∙ ap (λ (g : Fields). map sampleOf (g .samples)) fields
 
 -- they are the first of the slice, where it has room
 pub first-over : (xs ys : List Float) → length xs ≤ length ys → take (length xs) (over xs ys) ≡ xs
