@@ -17,8 +17,8 @@
  * must be one that agc2_new or agc2_new_with_predictor accepted and that nobody else wrote to. A controller has no pointer in it and may be copied and moved; two threads must not use one at once.
  * The proofs take floats to work as they do by default: rounded to nearest, with no subnormal number flushed to zero.
  *
- * The stack that a call needs, as measured with clang and gcc at -O0 and -O2: 15 KB for a frame, 9.8 KB for a making and agc2_stored_record, 1.9 KB for any other (bindings/c/stack.c); where memcpy
- * is bound late, the first call needs 3 KB more. */
+ * The stack that a call needs, as measured with clang and gcc at -O0 and -O2: 22 KB for a frame, 14.2 KB for a making, agc2_stored_record and agc2_compute_partial_metrics, 1.9 KB for any other
+ * (bindings/c/stack.c); where memcpy is bound late, the first call needs 3 KB more. */
 #ifndef AGC2_H
 #define AGC2_H
 
@@ -31,7 +31,7 @@ extern "C" {
 
 enum { AGC2_MAX_CHANNELS = 8, AGC2_MAX_SAMPLES_PER_CHANNEL = 480 };
 
-/* The refusals of these calls: agc2_new has 1 to 6, agc2_new_with_predictor 7, 14 and 15 besides, agc2_analyze_input_audio 8 and 9. */
+/* The refusals of these calls: agc2_new has 1 to 6, agc2_new_with_predictor 7, 14 and 15 besides, agc2_analyze_input_audio 8 and 9, agc2_compute_partial_metrics 11. */
 enum {
     AGC2_ACCEPTED = 0,
     AGC2_CHANNEL_COUNT = 1,
@@ -43,6 +43,7 @@ enum {
     AGC2_PREDICTOR_WINDOWS = 7,
     AGC2_INPUT_VOLUME = 8,
     AGC2_FRAME_SIZE = 9,
+    AGC2_RING_RANGE = 11,
     AGC2_PREDICTOR_CAPACITY = 14,
     AGC2_PREDICTOR_LEVELS = 15
 };
@@ -80,12 +81,24 @@ typedef struct agc2_predictor_config {
     int32_t crest_factor_margin;
 } agc2_predictor_config;
 
-/* What a channel's ring keeps of a frame: 1 with the mean square and the largest magnitude, or 0 and zeros where there is none. */
+/* What a channel's ring keeps of a frame: 1 with the mean square, the largest magnitude and the number of clipped samples, or 0 and zeros where there is none. A sample is clipped at 32767 and above
+ * and at -32768 and below, an infinity too, and never one that is not a number. */
 typedef struct agc2_record {
     uint32_t present;
     float average;
     float max;
+    uint32_t clipped;
 } agc2_record;
+
+/* Over some of these records: 0 or the refusal's number; and 1 with the mean of the mean squares, the largest magnitude and the clipped samples in total, or 0 and zeros where there are none and beside
+ * a refusal. */
+typedef struct agc2_metrics {
+    uint32_t refusal;
+    uint32_t present;
+    float average;
+    float max;
+    uint32_t clipped;
+} agc2_metrics;
 
 /* ---- a controller; the words in it belong to the library. Every byte is written: equal settings and calls make equal bytes. A frame, refused or not, also writes
  * the four words that are no state: refusal and near, its answer, and present and volume, 0 until the next recommendation. */
@@ -95,7 +108,7 @@ typedef struct agc2_control_state {
 } agc2_control_state;
 
 typedef struct agc2_predictor_state {
-    uint64_t words[542];
+    uint64_t words[798];
 } agc2_predictor_state;
 
 /* All but the predictor, with the answer to the last recommendation: 1 and the volume, or 0 and 0 for none. */
@@ -125,6 +138,7 @@ typedef struct agc2_layout_of {
     uint32_t config_size;
     uint32_t record_size;
     uint32_t predictor_config_size;
+    uint32_t metrics_size;
 } agc2_layout_of;
 
 agc2_config agc2_default_config(void);
@@ -139,6 +153,7 @@ void agc2_analyze_input_audio_into(agc2_controller *controller, int32_t applied_
 void agc2_recommend_input_volume_into(agc2_control *control, float speech_probability, uint32_t has_speech_level, float speech_level_dbfs);
 int32_t agc2_recommended_input_volume_by_value(agc2_control_state control);
 agc2_record agc2_stored_record_by_value(agc2_controller controller, size_t channel, size_t i);
+agc2_metrics agc2_compute_partial_metrics_by_value(agc2_controller controller, size_t channel, int32_t delay, int32_t num_items);
 
 /* ---- the calls */
 
@@ -205,6 +220,13 @@ static inline agc2_record agc2_stored_record(const agc2_controller *controller, 
     return agc2_stored_record_by_value(*controller, channel, i);
 }
 
+/* Metrics over num_items records of a channel's ring, those behind the newest `delay`: what a fitter reads to see a clipped stretch. There are none where fewer than delay + num_items are stored, and so
+ * in a channel that is not there. Clipping that is found or predicted, after which the volume falls, empties the rings; in the wait after it they fill again. Refuses with 11 a negative delay, num_items
+ * below 1, and a sum of both above what a ring holds, which is the predictor's delay + reference: 10 with the original's. */
+static inline agc2_metrics agc2_compute_partial_metrics(const agc2_controller *controller, size_t channel, int32_t delay, int32_t num_items) {
+    return agc2_compute_partial_metrics_by_value(*controller, channel, delay, num_items);
+}
+
 /* A refusal in words. */
 static inline const char *agc2_words(uint32_t refusal) {
     switch (refusal) {
@@ -228,6 +250,8 @@ static inline const char *agc2_words(uint32_t refusal) {
         return "a volume not 0 to 255";
     case AGC2_FRAME_SIZE:
         return "samples per channel not 1 to 480, or lent samples not channels \xc3\x97 that";
+    case AGC2_RING_RANGE:
+        return "delay negative, item count below 1, or their sum above the ring's capacity";
     case AGC2_PREDICTOR_CAPACITY:
         return "predictor delay + reference above 64";
     case AGC2_PREDICTOR_LEVELS:

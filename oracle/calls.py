@@ -7,7 +7,8 @@ ORACLE is the driver over the unchanged Rust (`probe` of rust/), REPLAY the prog
 channels with settings from all of the table's domain, frames of 1 to 480 samples a channel with infinite and not-a-number samples among them, recommendations,
 initialises and capture switches. Frames and settings that the table refuses go to the port alone: the refusal must be the table's, and the state must stay.
 After each call the two states must be equal: the volume, the pending volume, the capture switch, the count since clipping, the controlling channel, every figure
-of every channel, and each ring's count and newest record; all records of all rings from time to time. A marked call may differ; the controller is then left, since
+of every channel, and each ring's count and newest record; all records of all rings from time to time. The Rust's records have no count of clipped samples: the port's
+are left out there, and must be those of the words (counts.py). A marked call may differ; the controller is then left, since
 the states are no longer equal. Prints what was compared, and each line that differs.
 """
 import random
@@ -16,6 +17,8 @@ import struct
 import subprocess
 import sys
 import tempfile
+
+from counts import Counts, without
 
 PIECE = 60_000  # calls for one run of the two programs
 
@@ -150,9 +153,10 @@ def main():
         theirs = iter(run(oracle, [c for c, cause in commands if cause is None]))
         ours = run(replay, ["V"] + [c for c, _ in commands])[1:]
         assert len(ours) == len(commands), (len(ours), len(commands))
-        apart, before = False, None
+        apart, before, counted = False, None, Counts()
         for (command, cause), port in zip(commands, ours):
             port = port.split(" => ", 1)[1]
+            by_words = counted.put(command, without(port))
             rust = normal(next(theirs)) if cause is None else None
             kind = command[0]
             apart = apart and kind != "N"
@@ -172,16 +176,17 @@ def main():
                     rust = rust[1:]
                 counts["none"] += rust.startswith("none")
                 counts["marked"] += near
-                fine = state == rust or near
-                if near and state != rust:
+                same = without(state) == rust
+                fine = same or near
+                if near and not same:
                     counts["marked_apart"] += 1
                     apart = True
                 if kind != "D":
                     before = state.split(" ", 1)[1]
-            if not fine:
+            if not fine or port != by_words:
                 counts["differ"] += 1
                 if counts["differ"] <= 20:
-                    print(f"{command[:200]}\n  the Rust {rust}\n  the port {port}\n  the table {cause}")
+                    print(f"{command[:200]}\n  the Rust {rust}\n  the port {port}\n  the counts {by_words}\n  the table {cause}")
                 apart = True
     print(", ".join(f"{k} {v}" for k, v in counts.items()))
     sys.exit(counts["differ"] != 0)

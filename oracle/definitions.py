@@ -200,6 +200,24 @@ EDITS = [
         (RING + "Level.antt", "measuredTwoIf (isMeasured first && eqb (length first) (length second)) first second", "measuredTwoIf (isMeasured first && true) first second")]),
     ("nine channels are refused for the frame's size", "RefusedBelow", [
         (PREDICTOR + "FrameLevels.antt", "measuringIf false fits = Refused ChannelCount", "measuringIf false fits = Refused FrameSize")]),
+    # ---- document 02 (xi)
+    ("a threshold that rises with the clipped samples", "CountsAreUnread", [
+        (PREDICTOR + "Estimate.antt", "use lib.IntN.{ℤ, pos, negsuc, negℤ, _*ℤ_}", "use lib.IntN.{ℤ, pos, negsuc, negℤ, _+ℤ_, _*ℤ_}"),
+        (PREDICTOR + "Estimate.antt", "(Finite threshold) (leaf 0) (crestTree", "(Finite (threshold +ℤ pos (window .clipped))) (leaf 0) (crestTree")]),
+    ("a clipped sample counts twice", "CountsWithin", [
+        (RING + "Clipped.antt", "oneIf true = 1", "oneIf true = 2")]),
+    ("a total counts each record twice", "CountsWithin", [
+        (RING + "Metrics.antt", "use mathlib.Core.List.{List, map}", "use mathlib.Core.List.{List, map, _++_}"),
+        (RING + "Metrics.antt", "clipped = total (map clippedOf items) }", "clipped = total (map clippedOf (items ++ items)) }")]),
+    ("a count of 481 is pushed", "RefusedBelow", [
+        (RING + "Pushing.antt", "isCount (pos n) = leb n maxSamplesPerChannel", "isCount (pos n) = leb n 481")]),
+    # the clipped samples of a record before the lead-in are then in every later one
+    ("a record adds the clipped samples of the one before", "TwoPastsInEveryMode", [
+        (RING + "Ring.antt", "abbrev pub push : ℕ → Level → List Level → List Level\n",
+         "abbrev pub carried : Level → List Level → Level\ncarried level [] = level\n"
+         "carried level (l ∷ ls) = record { average = level .average; max = level .max; clipped = level .clipped + l .clipped }\n\n"
+         "abbrev pub push : ℕ → Level → List Level → List Level\n"),
+        (RING + "Ring.antt", "push capacity level records = take capacity (level ∷ records)", "push capacity level records = take capacity (carried level records ∷ records)")]),
 ]
 
 

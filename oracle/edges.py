@@ -15,16 +15,19 @@ The cases stand in edges.txt, a step a line: a letter, two numbers of six column
     H 0 expected name          the highest volume that the channel may set
     K 0 expected name          the frames counted since clipping
     D place expected name      the peak of a stored record, counted from the newest as 0
-    M count expected name      a ring of capacity 10 with the records 0, 1, 2 and so on: the mean square over a delay of 5 and 5 items
+    M count expected name      a ring of capacity 10 with the records 0, 1, 2 and so on, each with as many clipped samples: the mean square over a delay of 5 and 5 items
     P count expected name      the peak over the same
     Q level expected name      the speech error at a level in tenths of a dB, for targets -50 to -30
 
 Prints `COMMAND => ANSWER` for each command of replay that the steps come to, with a line `# NAME: NUMBER => ` behind what shows the number. Fails where the Rust does not show it.
+The counts of clipped samples, which the Rust has not, are those of the words (counts.py).
 """
 import re
 import struct
 import subprocess
 import sys
+
+from counts import Counts
 
 NONE = -999
 
@@ -51,7 +54,7 @@ def commands(letter, a):
     if letter == "W":
         return [f"A {volume} {word(40000.0) * 4}", "R 00000000 -"] * 300
     if letter in "MP":
-        return ["G 10"] + [f"g {word(float(i))} {word(float(i))}" for i in range(count)] + ["m 5 5"]
+        return ["G 10"] + [f"g {word(float(i))} {word(float(i))} {i}" for i in range(count)] + ["m 5 5"]
     if letter == "Q":
         return [f"Q {word(level / 10)} -50 -30"]
     return [letter] if letter in "ID" else []
@@ -86,10 +89,10 @@ def main():
     # a P in front: the Rust panics in its statistics, which the port leaves out (docs/DIFFERENCES.md, 2)
     answers, wrong = [re.sub(r" e=\d", "", x).removeprefix("P") for x in said], 0
     print("V => ok")
-    at = 0
+    at, counts = 0, Counts()
     for letter, a, name in steps:
         for command in commands(letter, a):
-            print(f"{command} => {answers[at]}")
+            print(f"{command} => {counts.put(command, answers[at])}")
             at += 1
         if name:
             seen = shown(letter, a, answers[:at])

@@ -6,15 +6,16 @@ usage: estimates.py ORACLE REPLAY [COUNT [SEED [edges]]]
 ORACLE is the driver over the unchanged Rust (`probe` of rust/), REPLAY the program of crates/replay. Both get the same commands: predictors of one to eight
 channels, frames whose peaks lie around the threshold, with infinite and not-a-number samples among them, and estimates, some of them out of range. With `edges`: predictors of windows 1, 1, 1 and two frames
 that bring the sides of a comparison, or a P and a whole dB, within 15 thousandths of each other.
-An unmarked answer must be the Rust's; a refusal must be the one of document 01's table; drop and mark must be those of the words (marks.py), and no estimate may be marked that reaches no near
-test. Prints what was compared, how many estimates reach a near test, which document 01 marked before 02 (iii), each line that differs, and how far from an edge, in thousandths, the sides of the port
-lay where the Rust's answer is on the other side of it.
+An unmarked answer must be the Rust's; a refusal must be the one of document 01's table; drop and mark must be those of the words (marks.py), and no estimate may be marked that reaches no near test.
+Records must be the Rust's, which has no counts, and their counts those of the words (counts.py). Prints what was compared, how many estimates reach a near test, which document 01 marked before 02
+(iii), each line that differs, and how far from an edge, in thousandths, the sides of the port lay where the Rust's answer is on the other side of it.
 """
 import collections
 import random
 import subprocess
 import sys
 
+from counts import Counts, without
 from marks import EDGES, Predictor, bits, drawn, drop, newest, reaches_near, shown, threshold_for, turned
 
 PIECE = 400_000  # bytes of commands for one run of the two programs; each piece starts with a new predictor
@@ -158,14 +159,14 @@ def main():
         commands, refused = draw(rnd)
         theirs, ours = run(oracle, commands), run(replay, commands)
         assert len(theirs) == len(ours) == len(commands)
-        predictor = None
+        predictor, counted = None, Counts()
         for command, cause, rust, port in zip(commands, refused, theirs, ours):
             port = port.split(" => ", 1)[1]
             if command[0] == "E":
                 fine = compared(counts, turns, predictor, command, cause, rust, port)
             else:
                 counts["frames"] += command[0] == "F"
-                fine = same_record(rust, port)
+                fine = same_record(rust, without(port)) and port == counted.put(command, without(port))
                 predictor = followed(predictor, command, port)
             if not fine:
                 counts["differ"] += 1

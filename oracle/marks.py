@@ -15,6 +15,7 @@ import random
 import struct
 import sys
 
+from counts import clipped
 from levels import OFFSET, level_of, value
 from table_bytes import gains
 
@@ -191,7 +192,7 @@ class Predictor:
 def newest(answer):
     """The newest record of each ring, as the answer to a frame has it."""
     for text in answer.split(" ")[1:]:
-        _, mean, peak = text.split(":")
+        _, mean, peak, _ = text.split(":")
         yield value(int(mean, 16)), value(int(peak, 16))
 
 
@@ -263,7 +264,7 @@ def block(mode, threshold, margin, frames, asked):
     reference, window = map(record, frames)
     yield f"P 1 1 {mode} 1 1 1 {threshold} {margin} => ok"
     for count, (samples, (mean, peak)) in enumerate(zip(frames, (reference, window)), 1):
-        yield f"F {''.join(f'{s:08x}' for s in samples)} => ok {count}:{bits(mean):08x}:{bits(peak):08x}"
+        yield f"F {''.join(f'{s:08x}' for s in samples)} => ok {count}:{bits(mean):08x}:{bits(peak):08x}:{clipped(samples)}"
     yield f"E 0 {' '.join(map(str, asked))} => {shown(tree(mode, threshold, margin, window, reference), *asked)}"
 
 

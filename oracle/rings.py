@@ -1,10 +1,14 @@
 #!/usr/bin/env python3
-"""Random ring commands, most of them in range: `python3 oracle/rings.py [COUNT [SEED]]` writes them, for the Rust's driver and for crates/replay."""
+"""Random ring commands, most of them in range: `python3 oracle/rings.py [COUNT [SEED]]` writes them, for the Rust's driver, which passes over the counts, and for crates/replay. No count is refused,
+since the Rust refuses none."""
 import random
 import struct
 import sys
 
-rnd = random.Random(int(sys.argv[2]) if len(sys.argv) > 2 else 3)
+seed = int(sys.argv[2]) if len(sys.argv) > 2 else 3
+rnd = random.Random(seed)
+# by themselves, so that a seed draws the same commands with counts and without
+counts = random.Random(seed)
 SPECIAL = [0x7F800000, 0xFF800000, 0x7FC00000, 0x80000000, 0x00000000, 0x00000001, 0x7F7FFFFF]
 
 
@@ -23,7 +27,7 @@ for k in range(int(sys.argv[1]) if len(sys.argv) > 1 else 1500):
     elif pick < 0.025:
         print("z")
     elif pick < 0.55:
-        print(f"g {value():08x} {value():08x}")
+        print(f"g {value():08x} {value():08x} {counts.choice([0, 480, counts.randint(0, 480)])}")
     elif pick < 0.97:
         delay = rnd.randrange(capacity)
         print("m", delay, rnd.randint(1, capacity - delay))

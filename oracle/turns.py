@@ -20,6 +20,7 @@ import random
 import sys
 
 from calls import run
+from counts import clipped, parts
 from levels import OFFSET, value
 from marks import ADAPTIVE, EVENT, FIXED, Predictor, bits, drop, is_leaf, is_near, leaves, reached, reaches_near, record, rounded
 
@@ -57,10 +58,10 @@ def spelled(state):
     return f"v={state.volume} a={pending} c={state.used} k={state.since} g={state.controlling} {channels} r={''.join(ring + '/' for ring in state.rings)}"
 
 
-def spelled_ring(records):
-    """How many records there are, and the newest."""
+def spelled_ring(records, part):
+    """How many records there are, and the newest, which is that of the part."""
     mean, peak = records[0]
-    return f"{len(records)}:{bits(mean):08x}:{bits(peak):08x}"
+    return f"{len(records)}:{bits(mean):08x}:{bits(peak):08x}:{clipped(part)}"
 
 
 # ---- what a frame returns, by document 01
@@ -106,10 +107,9 @@ def returned(s, state, clipped, to):
     return aggregated(s, state._replace(since=0, channels=channels, rings=(EMPTY,) * len(state.rings)))
 
 
-def is_clipped(s, parts):
+def is_clipped(s, heard):
     """Whether the most clipped samples of a channel have a ratio above the threshold."""
-    most = max(sum(value(x) >= 32767 or value(x) <= -32768 for x in part) for part in parts)
-    return rounded(most / len(parts[0])) > s.ratio
+    return rounded(max(map(clipped, heard)) / len(heard[0])) > s.ratio
 
 
 # ---- turns
@@ -213,31 +213,25 @@ class Followed:
         if EMPTY in self.state.rings:
             self.predictor.reset()
 
-    def parts(self, samples):
-        """The samples of each channel."""
-        words = [int(samples[k : k + 8], 16) for k in range(0, len(samples), 8)]
-        size = len(words) // self.s.channels
-        return [words[k : k + size] for k in range(0, len(words), size)]
-
-    def entered(self, state, parts):
+    def entered(self, state, heard):
         """With capture on every frame first enters the rings."""
         if not self.s.on:
             return state
-        self.predictor.push(map(record, parts))
-        return state._replace(rings=tuple(map(spelled_ring, self.predictor.rings)))
+        self.predictor.push(map(record, heard))
+        return state._replace(rings=tuple(map(spelled_ring, self.predictor.rings, heard)))
 
     def framed(self, counts, kinds, command):
         """The state that a frame returns, and whether it is marked: None if that is not tested."""
         _, volume, samples = command.split(" ")
-        state, parts = with_volume_applied(self.s, self.state, int(volume)), self.parts(samples)
+        state, heard = with_volume_applied(self.s, self.state, int(volume)), parts(samples, self.s.channels)
         if not state.used:
             counts["capture_off"] += 1
             return state, False
-        state = self.entered(state, parts)
+        state = self.entered(state, heard)
         if state.since < self.s.wait:
             counts["within_wait"] += 1
             return state._replace(since=state.since + 1), False
-        return self.tested(counts, kinds, state, is_clipped(self.s, parts))
+        return self.tested(counts, kinds, state, is_clipped(self.s, heard))
 
     def tested(self, counts, kinds, state, clipped):
         """The same of a frame that is asked about."""
@@ -369,8 +363,8 @@ def session(rnd):
     recommended, last = rnd.choice([0, 0.2, 0.9]), rnd.randint(c.floor, MAX_VOLUME)
     for _ in range(rnd.choice([5, 15, 30])):
         last = volume(rnd, c, last)
-        for parts in frames(rnd, c):
-            yield f"A {last} " + "".join(f"{x:08x}" for words in parts for x in words)
+        for heard in frames(rnd, c):
+            yield f"A {last} " + "".join(f"{x:08x}" for words in heard for x in words)
         if rnd.random() < recommended:
             yield f"R 3f800000 {rnd.choice(['-', f'{bits(rnd.uniform(-90, 10)):08x}'])}"
         if rnd.random() < 0.2:

@@ -5,8 +5,9 @@ usage: two_pasts.py PROGRAM [PAIRS [SEED [FEWER [modes]]]]
 
 PROGRAM is the driver over the unchanged Rust (`probe` of rust/) or the program of crates/replay. The lead-in is that of document 01: capture switched on; as many quiet frames as it asks for,
 with recommendations and initialises between them; an initialise; a quiet frame with a positive volume and its recommendation. With FEWER there are so many quiet frames less, and pairs that are told
-apart are to be expected. With `modes`, for the program of crates/replay alone, each pair has a predictor of its own, of any mode, on or off, and the lead-in is that of document 02 (iv). Prints how many
-calls after the lead-in were compared, and how many pairs were told apart, with `modes` of each mode; without FEWER exits with 1 if there is one.
+apart are to be expected. With `modes`, for the program of crates/replay alone, each pair has a predictor of its own, of any mode, on or off, and the lead-in is that of document 02 (iv). The port's
+records have their counts of clipped samples, which are compared too (document 02 (xi)). Prints how many calls after the lead-in were compared, and how many pairs were told apart, with `modes` of each
+mode; without FEWER exits with 1 if there is one.
 """
 import random
 import struct

@@ -40,6 +40,8 @@ __attribute__((noinline)) static void switched(void) { agc2_handle_capture_outpu
 
 __attribute__((noinline)) static void stored(void) { sink = agc2_stored_record(&controller, 0, 0).present; }
 
+__attribute__((noinline)) static void metrics(void) { sink = agc2_compute_partial_metrics(&controller, 0, 0, 1 + rand() % 10).clipped; }
+
 /* ---- one call on a painted stack */
 
 typedef void (*call)(void);
@@ -70,7 +72,7 @@ static void most(long *seen, call f) {
 
 /* ---- random calls */
 
-enum { NEW, NEW_WITH, FRAME, RECOMMEND, INITIALIZE, SWITCH, STORED, CALLS };
+enum { NEW, NEW_WITH, FRAME, RECOMMEND, INITIALIZE, SWITCH, STORED, METRICS, CALLS };
 
 static void settings(void) {
     channels = 1 + rand() % AGC2_MAX_CHANNELS;
@@ -98,8 +100,8 @@ static void sound(void) {
 }
 
 int main(void) {
-    static const char *const names[CALLS] = {"agc2_new", "agc2_new_with_predictor", "a frame", "a recommendation", "initialise", "the capture switch", "agc2_stored_record"};
-    static const long bounds[CALLS] = {9800, 9800, 15000, 1900, 1900, 1900, 9800};
+    static const char *const names[CALLS] = {"agc2_new", "agc2_new_with_predictor", "a frame", "a recommendation", "initialise", "the capture switch", "agc2_stored_record", "agc2_compute_partial_metrics"};
+    static const long bounds[CALLS] = {14200, 14200, 22000, 1900, 1900, 1900, 14200, 14200};
     long seen[CALLS] = {0};
     stack = aligned_alloc(4096, SIZE);
     srand(7);
@@ -115,6 +117,7 @@ int main(void) {
         most(&seen[INITIALIZE], initialized);
         most(&seen[SWITCH], switched);
         most(&seen[STORED], stored);
+        most(&seen[METRICS], metrics);
     }
     int wrong = 0;
     for (int i = 0; i < CALLS; i++) {

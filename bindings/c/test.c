@@ -1,6 +1,7 @@
 /* Drives the archive through include/agc2.h. The sizes are held to what the archive states and to what it writes. */
 #include "agc2.h"
 
+#include <math.h>
 #include <stdio.h>
 #include <stdlib.h>
 #include <string.h>
@@ -29,6 +30,7 @@ static void sizes_are_those_the_archive_states(void) {
     CHECK(l.config_size == sizeof(agc2_config));
     CHECK(l.record_size == sizeof(agc2_record));
     CHECK(l.predictor_config_size == sizeof(agc2_predictor_config));
+    CHECK(l.metrics_size == sizeof(agc2_metrics));
 }
 
 /* What lies below the stack's end is filled, so that a byte which a call copies from there unwritten is seen. */
@@ -44,6 +46,7 @@ __attribute__((noinline)) static void fill_stack(int with) {
 typedef void *(*creates)(void *result, int32_t num_capture_channels, agc2_config config);
 typedef void *(*creates_with)(void *result, int32_t num_capture_channels, agc2_config config, agc2_predictor_config predictor);
 typedef void *(*initializes)(void *result, agc2_control_state control);
+typedef void *(*computes)(void *result, agc2_controller controller, size_t channel, int32_t delay, int32_t num_items);
 
 static _Alignas(8) unsigned char zeros[8192], ones[8192];
 
@@ -111,6 +114,14 @@ static void sizes_are_those_the_archive_writes(void) {
     fill_stack(255);
     agc2_recommend_input_volume_into((agc2_control *)(void *)ones, 0.5f, 0, 0.0f);
     CHECK(written() == sizeof(agc2_control));
+
+    computes compute = (computes)(void (*)(void))agc2_compute_partial_metrics_by_value;
+    before_writing();
+    fill_stack(0);
+    compute(zeros, c, 0, 0, 1);
+    fill_stack(255);
+    compute(ones, c, 0, 0, 1);
+    CHECK(written() == sizeof(agc2_metrics));
 }
 
 /* ---- every byte */
@@ -386,6 +397,100 @@ static void records(void) {
     CHECK(agc2_recommend_input_volume(&c, 0.0f, NULL, &volume) == 0);
 }
 
+/* 32,767 and above and -32,768 and below are clipped, infinities too; a not-a-number and -32,767 are not. */
+static const float clipped_samples[5] = {32767.0f, -32768.0f, INFINITY, -INFINITY, 1e30f};
+static const float other_samples[5] = {32766.0f, -32767.0f, NAN, 0.0f, -0.5f};
+
+/* No ratio is above 1, so no frame counts as clipped, and with fewer than ten records nothing is predicted: nothing empties the rings. */
+static agc2_controller with_rings_left(int32_t channels) {
+    agc2_config d = agc2_default_config();
+    agc2_controller c;
+    d.clipped_ratio_threshold = 1.0f;
+    CHECK(agc2_new(&c, channels, d) == 0);
+    return c;
+}
+
+static void each_sample(void) {
+    for (int i = 0; i < 5; i++) {
+        agc2_controller c = with_rings_left(1);
+        CHECK(agc2_analyze_input_audio(&c, 100, 1, &clipped_samples[i], 1) == 0 && agc2_stored_record(&c, 0, 0).clipped == 1);
+        CHECK(agc2_analyze_input_audio(&c, 100, 1, &other_samples[i], 1) == 0 && agc2_stored_record(&c, 0, 0).clipped == 0);
+        CHECK(agc2_stored_record(&c, 0, 1).clipped == 1 && agc2_compute_partial_metrics(&c, 0, 0, 2).clipped == 1);
+    }
+}
+
+/* Eight samples of a channel, of which so many are clipped. */
+static void put_part(float *part, int clipped) {
+    for (int i = 0; i < 8; i++) {
+        part[i] = i < clipped ? clipped_samples[i % 5] : other_samples[i % 5];
+    }
+}
+
+enum { STRETCH = 5 };
+
+static const int stretch[2][STRETCH] = {{0, 1, 8, 3, 0}, {8, 0, 2, 3, 5}};
+
+/* The clipped samples of a channel in the items behind the newest `delay` frames. */
+static uint32_t total(int channel, int delay, int items) {
+    uint32_t sum = 0;
+    for (int k = STRETCH - delay - items; k < STRETCH - delay; k++) {
+        sum += (uint32_t)stretch[channel][k];
+    }
+    return sum;
+}
+
+/* Five frames of two channels, whose counts are kept apart: metrics up to five records, none up to ten, 11 above, and none for a third channel. */
+static void clipped_stretch(void) {
+    agc2_controller c = with_rings_left(2), before;
+    for (int k = 0; k < STRETCH; k++) {
+        float frame[16];
+        put_part(frame, stretch[0][k]);
+        put_part(frame + 8, stretch[1][k]);
+        CHECK(agc2_analyze_input_audio(&c, 100, 8, frame, 16) == 0);
+    }
+    memcpy(&before, &c, sizeof c);
+    for (int channel = 0; channel < 3; channel++) {
+        for (int i = 0; i < STRETCH && channel < 2; i++) {
+            CHECK(agc2_stored_record(&c, (size_t)channel, (size_t)i).clipped == (uint32_t)stretch[channel][STRETCH - 1 - i]);
+        }
+        for (int delay = 0; delay < 12; delay++) {
+            for (int items = 1; items < 12; items++) {
+                agc2_metrics m = agc2_compute_partial_metrics(&c, (size_t)channel, delay, items);
+                int found = channel < 2 && delay + items <= STRETCH;
+                CHECK(m.refusal == (delay + items > 10 ? AGC2_RING_RANGE : 0) && m.present == (uint32_t)found);
+                CHECK(m.clipped == (found ? total(channel, delay, items) : 0));
+            }
+        }
+        CHECK(agc2_compute_partial_metrics(&c, (size_t)channel, -1, 1).refusal == AGC2_RING_RANGE && agc2_compute_partial_metrics(&c, (size_t)channel, 0, 0).refusal == AGC2_RING_RANGE);
+        CHECK(agc2_compute_partial_metrics(&c, (size_t)channel, INT32_MIN, INT32_MIN).refusal == AGC2_RING_RANGE);
+        CHECK(agc2_compute_partial_metrics(&c, (size_t)channel, INT32_MAX, INT32_MAX).refusal == AGC2_RING_RANGE);
+    }
+    CHECK(memcmp(&c, &before, sizeof c) == 0);
+    CHECK(strcmp(agc2_words(AGC2_RING_RANGE), "delay negative, item count below 1, or their sum above the ring's capacity") == 0);
+}
+
+/* The mean of the mean squares and the largest magnitude of the frames behind the newest; what is none has zeros. */
+static void mean_and_peak(void) {
+    static const float frames[3][2] = {{1, -1}, {3, -5}, {2, 2}};
+    agc2_controller c = with_rings_left(1);
+    for (int k = 0; k < 3; k++) {
+        CHECK(agc2_analyze_input_audio(&c, 100, 2, frames[k], 2) == 0);
+    }
+    agc2_metrics found = agc2_compute_partial_metrics(&c, 0, 1, 2), none = agc2_compute_partial_metrics(&c, 0, 1, 3);
+    CHECK(found.refusal == 0 && found.present == 1 && found.average == 9.0f && found.max == 5.0f && found.clipped == 0);
+    CHECK(none.refusal == 0 && none.present == 0 && none.average == 0.0f && none.max == 0.0f && none.clipped == 0);
+}
+
+/* Clipping that is found empties the rings; in the wait after it they fill again. */
+static void stretch_after_clipping(void) {
+    static const float clipped[4] = {32767, 32767, 0, 0};
+    agc2_controller c;
+    CHECK(agc2_new(&c, 1, agc2_default_config()) == 0);
+    CHECK(agc2_analyze_input_audio(&c, 200, 4, clipped, 4) == 0 && agc2_compute_partial_metrics(&c, 0, 0, 1).present == 0);
+    CHECK(agc2_analyze_input_audio(&c, 200, 4, clipped, 4) == 0 && agc2_analyze_input_audio(&c, 200, 4, clipped, 4) == 0);
+    CHECK(agc2_compute_partial_metrics(&c, 0, 0, 2).clipped == 4 && agc2_compute_partial_metrics(&c, 0, 1, 1).clipped == 2);
+}
+
 /* Speech that is too quiet raises the volume; without a speech level it stays. */
 static void speech(void) {
     static const float frame[4] = {0};
@@ -415,6 +520,10 @@ int main(void) {
     predictor_refusals();
     flags();
     records();
+    each_sample();
+    clipped_stretch();
+    mean_and_peak();
+    stretch_after_clipping();
     speech();
     printf("c: %d checks hold; a controller has %zu bytes\n", checks, sizeof(agc2_controller));
     return 0;

@@ -22,8 +22,8 @@
 //! one, so no safe code can break that. The proofs take floats to work as they do by default, and as Rust does: rounded to nearest, with no
 //! subnormal number flushed to zero.
 //!
-//! The stack that a call needs, as measured: 16 KB for a frame, up to 15 KB for [`InputVolumeController::stored_record`] and up to 25 KB for a
-//! making that goes into a box (both in a debug build), 3 KB for any other.
+//! The stack that a call needs, as measured: 22 KB for a frame, up to 21 KB for [`InputVolumeController::stored_record`] and
+//! [`InputVolumeController::compute_partial_metrics`] and up to 35 KB for a making that goes into a box (all three in a debug build), 3 KB for any other.
 #![warn(missing_docs)]
 
 mod predictor;
@@ -115,13 +115,15 @@ pub struct Accepted {
     pub near: bool,
 }
 
-/// What a channel's ring keeps of a frame.
+/// What a channel's ring keeps of a frame, and the metrics over several of these records.
 #[derive(Debug, Clone, Copy, PartialEq)]
 pub struct Level {
-    /// The mean square of the samples.
+    /// The mean square of the samples; of several records, the mean of theirs.
     pub average: f32,
     /// The largest magnitude.
     pub max: f32,
+    /// How many samples are clipped, at 32767 and above or at -32768 and below, an infinity too, and never one that is not a number; of several records, in total.
+    pub clipped: u32,
 }
 
 /// Recommends the input volume of a capture device from its frames.
@@ -196,7 +198,29 @@ impl InputVolumeController {
     pub fn stored_record(&self, channel: usize, i: usize) -> Option<Level> {
         // SAFETY: the state is one that the library handed out.
         let r = unsafe { raw::agc2_stored_record_by_value(self.raw, channel, i) };
-        (r.present != 0).then_some(Level { average: r.average, max: r.max })
+        (r.present != 0).then_some(Level { average: r.average, max: r.max, clipped: r.clipped })
+    }
+
+    /// Metrics over `num_items` records of a channel's ring, those behind the newest `delay`: what a fitter reads to see a clipped stretch. None where fewer than
+    /// `delay + num_items` are stored, and so in a channel that is not there. Clipping that is found or predicted, after which the volume falls, empties the rings; in
+    /// the wait after it they fill again. Refuses with cause 11 a negative delay, `num_items` below 1, and a sum of both above what a ring holds, which is the
+    /// predictor's delay + reference: 10 with the original's.
+    ///
+    /// ```
+    /// use agc2::{Config, InputVolumeController, Refusal};
+    ///
+    /// let mut controller = InputVolumeController::new(1, Config { clipped_ratio_threshold: 0.5, ..Config::default() })?;
+    /// controller.analyze_input_audio(200, 4, &[100.0, 32767.0, 0.0, -100.0])?;
+    /// controller.analyze_input_audio(200, 4, &[0.0, 32767.0, -32768.0, 0.0])?;
+    /// assert_eq!(controller.compute_partial_metrics(0, 0, 2)?.map(|over| over.clipped), Some(3));
+    /// assert_eq!(controller.compute_partial_metrics(0, 0, 11), Err(Refusal::RingRange));
+    /// # Ok::<(), Refusal>(())
+    /// ```
+    pub fn compute_partial_metrics(&self, channel: usize, delay: i32, num_items: i32) -> Result<Option<Level>, Refusal> {
+        // SAFETY: the state is one that the library handed out.
+        let m = unsafe { raw::agc2_compute_partial_metrics_by_value(self.raw, channel, delay, num_items) };
+        Refusal::check(m.refusal)?;
+        Ok((m.present != 0).then_some(Level { average: m.average, max: m.max, clipped: m.clipped }))
     }
 }
 

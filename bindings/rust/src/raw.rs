@@ -11,7 +11,7 @@ pub struct ControlState {
 #[repr(C)]
 #[derive(Clone, Copy)]
 pub struct PredictorState {
-    words: [u64; 542],
+    words: [u64; 798],
 }
 
 /// With the answer to the last recommendation.
@@ -65,6 +65,16 @@ pub struct Record {
     pub present: u32,
     pub average: f32,
     pub max: f32,
+    pub clipped: u32,
+}
+
+#[repr(C)]
+pub struct Metrics {
+    pub refusal: u32,
+    pub present: u32,
+    pub average: f32,
+    pub max: f32,
+    pub clipped: u32,
 }
 
 #[cfg(test)]
@@ -79,6 +89,7 @@ pub struct Layout {
     pub config_size: u32,
     pub record_size: u32,
     pub predictor_config_size: u32,
+    pub metrics_size: u32,
 }
 
 extern "C" {
@@ -91,6 +102,7 @@ extern "C" {
     pub fn agc2_recommend_input_volume_into(control: &mut Control, speech_probability: f32, has_speech_level: u32, speech_level_dbfs: f32);
     pub fn agc2_recommended_input_volume_by_value(control: ControlState) -> i32;
     pub fn agc2_stored_record_by_value(controller: Controller, channel: usize, i: usize) -> Record;
+    pub fn agc2_compute_partial_metrics_by_value(controller: Controller, channel: usize, delay: i32, num_items: i32) -> Metrics;
     #[cfg(test)]
     pub fn agc2_layout() -> Layout;
 }
@@ -111,6 +123,7 @@ mod tests {
             config_size: size_of::<Config>() as u32,
             record_size: size_of::<Record>() as u32,
             predictor_config_size: size_of::<PredictorConfig>() as u32,
+            metrics_size: size_of::<Metrics>() as u32,
         };
         // SAFETY: the function takes nothing and asks for nothing.
         assert_eq!(unsafe { agc2_layout() }, here);

@@ -24,6 +24,8 @@ pub enum Refusal {
     InputVolume = 8,
     /// samples per channel not 1 to 480, or lent samples not channels × that
     FrameSize = 9,
+    /// delay negative, item count below 1, or their sum above the ring's capacity
+    RingRange = 11,
     /// predictor delay + reference above 64
     PredictorCapacity = 14,
     /// predictor threshold or margin not -200,000 to 200,000 thousandths of a dB
@@ -49,6 +51,7 @@ impl Refusal {
             7 => Refusal::PredictorWindows,
             8 => Refusal::InputVolume,
             9 => Refusal::FrameSize,
+            11 => Refusal::RingRange,
             14 => Refusal::PredictorCapacity,
             15 => Refusal::PredictorLevels,
             other => unreachable!("libagc2.a answered {other}, which is no refusal of it"),
@@ -68,6 +71,7 @@ impl fmt::Display for Refusal {
             Refusal::PredictorWindows => "predictor window or reference below 1, delay below 0, or delay + reference not above window",
             Refusal::InputVolume => "a volume not 0 to 255",
             Refusal::FrameSize => "samples per channel not 1 to 480, or lent samples not channels × that",
+            Refusal::RingRange => "delay negative, item count below 1, or their sum above the ring's capacity",
             Refusal::PredictorCapacity => "predictor delay + reference above 64",
             Refusal::PredictorLevels => "predictor threshold or margin not -200,000 to 200,000 thousandths of a dB",
         })

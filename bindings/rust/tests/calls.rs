@@ -1,5 +1,5 @@
 //! Drives the bindings as a tablet would.
-use agc2::{Accepted, ClippingPredictorConfig, ClippingPredictorMode, Config, InputVolumeController, Refusal, MAX_CHANNELS, MAX_SAMPLES_PER_CHANNEL};
+use agc2::{Accepted, ClippingPredictorConfig, ClippingPredictorMode, Config, InputVolumeController, Level, Refusal, MAX_CHANNELS, MAX_SAMPLES_PER_CHANNEL};
 
 fn made(channels: i32) -> InputVolumeController {
     InputVolumeController::new(channels, Config::default()).unwrap()
@@ -181,6 +181,91 @@ fn initialise_keeps_the_rings_and_forgets_the_pending_volume() {
     let second = c.stored_record(1, 0).unwrap();
     assert_eq!((first.average, first.max), (25.0 / 3.0, 4.0));
     assert_eq!((second.average, second.max), (10.0, 5.0));
+}
+
+/// 32,767 and above and -32,768 and below are clipped, infinities too; a not-a-number and -32,767 are not.
+const CLIPPED: [f32; 5] = [32767.0, -32768.0, f32::INFINITY, f32::NEG_INFINITY, 1e30];
+const OTHER: [f32; 5] = [32766.0, -32767.0, f32::NAN, 0.0, -0.5];
+
+/// No ratio is above 1, so no frame counts as clipped, and with fewer than ten records nothing is predicted: nothing empties the rings.
+fn with_rings_left(channels: i32) -> InputVolumeController {
+    InputVolumeController::new(channels, Config { clipped_ratio_threshold: 1.0, ..Config::default() }).unwrap()
+}
+
+#[test]
+fn a_record_counts_the_clipped_samples() {
+    for (clipped, other) in CLIPPED.into_iter().zip(OTHER) {
+        let mut c = with_rings_left(1);
+        c.analyze_input_audio(100, 1, &[clipped]).unwrap();
+        c.analyze_input_audio(100, 1, &[other]).unwrap();
+        assert_eq!((c.stored_record(0, 1).unwrap().clipped, c.stored_record(0, 0).unwrap().clipped), (1, 0), "{clipped} and {other}");
+        assert_eq!(c.compute_partial_metrics(0, 0, 2).unwrap().unwrap().clipped, 1);
+    }
+}
+
+/// Eight samples of a channel, of which so many are clipped.
+fn part(clipped: usize) -> impl Iterator<Item = f32> {
+    (0..8).map(move |i| if i < clipped { CLIPPED[i % 5] } else { OTHER[i % 5] })
+}
+
+/// Five frames of two channels, whose counts are kept apart.
+#[test]
+fn a_clipped_stretch_is_seen() {
+    let stretch = [[0, 1, 8, 3, 0], [8, 0, 2, 3, 5]];
+    let mut c = with_rings_left(2);
+    for (first, second) in stretch[0].into_iter().zip(stretch[1]) {
+        let frame: Vec<f32> = part(first).chain(part(second)).collect();
+        c.analyze_input_audio(100, 8, &frame).unwrap();
+    }
+    for (channel, counts) in stretch.into_iter().enumerate() {
+        let newest_first: Vec<u32> = counts.into_iter().rev().map(|n| n as u32).collect();
+        let records: Vec<u32> = (0..5).map(|i| c.stored_record(channel, i).unwrap().clipped).collect();
+        assert_eq!(records, newest_first);
+        for (delay, items) in (0..5).flat_map(|delay| (1..=5 - delay).map(move |items| (delay, items))) {
+            let over = c.compute_partial_metrics(channel, delay as i32, items as i32).unwrap().unwrap();
+            assert_eq!(over.clipped, newest_first[delay..delay + items].iter().sum::<u32>());
+        }
+    }
+}
+
+/// A ring of the original's predictor holds ten records. A channel that is not there stores none.
+#[test]
+fn metrics_are_none_with_too_few_records_and_refused_past_the_capacity() {
+    let mut c = with_rings_left(2);
+    for _ in 0..3 {
+        c.analyze_input_audio(100, 1, &[0.0, 32767.0]).unwrap();
+    }
+    for channel in [0, 1, 2, MAX_CHANNELS, usize::MAX] {
+        for (delay, items) in [(0, 4), (3, 1), (0, 10), (9, 1), (5, 5)] {
+            assert_eq!(c.compute_partial_metrics(channel, delay, items), Ok(None));
+        }
+        for (delay, items) in [(-1, 1), (i32::MIN, 1), (0, 0), (0, -1), (0, i32::MIN), (0, 11), (10, 1), (5, 6), (i32::MAX, 1), (i32::MAX, i32::MAX)] {
+            assert_eq!(c.compute_partial_metrics(channel, delay, items), Err(Refusal::RingRange));
+        }
+    }
+    assert_eq!((Refusal::RingRange.number(), c.compute_partial_metrics(1, 1, 2).unwrap().unwrap().clipped), (11, 2));
+    assert_eq!(Refusal::RingRange.to_string(), "delay negative, item count below 1, or their sum above the ring's capacity");
+}
+
+#[test]
+fn metrics_are_the_mean_and_the_peak_of_the_records_behind_the_newest() {
+    let mut c = with_rings_left(1);
+    for frame in [[1.0, -1.0], [3.0, -5.0], [2.0, 2.0]] {
+        c.analyze_input_audio(100, 2, &frame).unwrap();
+    }
+    assert_eq!(c.compute_partial_metrics(0, 1, 2), Ok(Some(Level { average: 9.0, max: 5.0, clipped: 0 })));
+}
+
+/// In the wait after it they fill again.
+#[test]
+fn clipping_that_is_found_empties_the_rings() {
+    let mut c = made(1);
+    let clipped = [32767.0, 32767.0, 0.0, 0.0];
+    c.analyze_input_audio(200, 4, &clipped).unwrap();
+    assert_eq!(c.compute_partial_metrics(0, 0, 1), Ok(None));
+    c.analyze_input_audio(200, 4, &clipped).unwrap();
+    c.analyze_input_audio(200, 4, &clipped).unwrap();
+    assert_eq!(c.compute_partial_metrics(0, 0, 2).unwrap().unwrap().clipped, 4);
 }
 
 #[test]

@@ -11,6 +11,7 @@ use Rattle.mono_input_volume_controller.specs.declared.speech_level.SpeechLevel
 use Rattle.mono_input_volume_controller.specs.declared.speech_level.SpeechLevel.the-variants.{Absent, Dbfs}
 use Rattle.input_volume_controller.specs.Reply.{Reply, mark, refusal, volume, none, done}
 use Rattle.agc2.specs.declared.answers.Agc2Record.{Agc2Record}
+use Rattle.agc2.specs.declared.answers.Agc2Metrics.{Agc2Metrics}
 use Rattle.agc2.specs.declared.answers.FrameNumbers.{FrameNumbers}
 use Rattle.agc2.specs.declared.answers.VolumeNumbers.{VolumeNumbers}
 
@@ -36,8 +37,18 @@ volumeNumbers done = record { present = 0; volume = pos 0 }
 
 -- a stored record or none
 abbrev pub recordOf : Option Level → Agc2Record
-recordOf (some l) = record { present = 1; average = l .average; max = l .max }
-recordOf Option.none = record { present = 0; average = ofBits binary32 0; max = ofBits binary32 0 }
+recordOf (some l) = record { present = 1; average = l .average; max = l .max; clipped = l .clipped }
+recordOf Option.none = record { present = 0; average = ofBits binary32 0; max = ofBits binary32 0; clipped = 0 }
+
+-- no metrics, with a refusal's number or 0
+abbrev pub noMetrics : ℕ → Agc2Metrics
+noMetrics number = record { refusal = number; present = 0; average = ofBits binary32 0; max = ofBits binary32 0; clipped = 0 }
+
+-- metrics, none, or a refusal
+abbrev pub metricsOf : Said (Option Level) → Agc2Metrics
+metricsOf (accepted (some l)) = record { refusal = 0; present = 1; average = l .average; max = l .max; clipped = l .clipped }
+metricsOf (accepted Option.none) = noMetrics 0
+metricsOf (refused number) = noMetrics number
 
 -- "the speech level is either absent or a float": absent at 0
 unfoldable pub speechLevelOf : ℕ → Float → SpeechLevel

@@ -5,10 +5,11 @@ abbrev pub layout : Agc2Layout
 layout = record {
   «control_size» = 320;
   «control_state» = 8;
-  «controller_size» = 4664;
+  «controller_size» = 6712;
   «controller_control» = 8;
   «controller_predictor» = 328;
   «config_size» = 44;
-  «record_size» = 12;
+  «record_size» = 16;
   «predictor_config_size» = 24;
+  «metrics_size» = 20;
 }

@@ -3,7 +3,9 @@ ghost use mathlib.Core.Path.{_≡_};
 ghost use Rattle.input_volume_controller.specs.Reply.{analysisSays, recommendationSays};
 ghost use Rattle.numbers.specs.Said.{outcomeSays};
 ghost use Rattle.clipping_predictor_level_buffer.specs.Ring.{storedSays};
-ghost use Rattle.agc2.specs.Answers.{outcomeNumber, frameNumbers, volumeNumbers, recordOf, speechLevelOf};
+ghost use Rattle.clipping_predictor_level_buffer.specs.Metrics.{metricsSays};
+ghost use Rattle.agc2.specs.Answers.{outcomeNumber, frameNumbers, volumeNumbers, recordOf, metricsOf, speechLevelOf};
+use clipping_predictor_level_buffer::Metrics;
 use clipping_predictor_level_buffer::Stored;
 use input_volume_controller::Analysis;
 use input_volume_controller::Recommendation;
@@ -37,6 +39,17 @@ pub struct Agc2Record {
     pub present: u32,
     pub average: f32,
     pub max: f32,
+    pub clipped: u32,
+}
+
+// Metrics over some records: 0 or the refusal's number, and 1 and the metrics, or 0 and zeros where there are none or beside a refusal.
+#[repr(C)]
+pub struct Agc2Metrics {
+    pub refusal: u32,
+    pub present: u32,
+    pub average: f32,
+    pub max: f32,
+    pub clipped: u32,
 }
 
 // A frame's answer and a recommendation's, without the controller.
@@ -94,11 +107,41 @@ pub fn record_of(stored: Stored) -> Agc2Record
             present: 1,
             average: level.average,
             max: level.max,
+            clipped: level.clipped,
         },
         Stored::Missing => Agc2Record {
             present: 0,
             average: 0.0,
             max: 0.0,
+            clipped: 0,
+        },
+    }
+}
+
+pub fn metrics_of(metrics: Metrics) -> Agc2Metrics
+    ensures { λ r. ⌜ r ≡ metricsOf (metricsSays metrics) ⌝ }
+{
+    match metrics {
+        Metrics::Found(level) => Agc2Metrics {
+            refusal: 0,
+            present: 1,
+            average: level.average,
+            max: level.max,
+            clipped: level.clipped,
+        },
+        Metrics::Missing => Agc2Metrics {
+            refusal: 0,
+            present: 0,
+            average: 0.0,
+            max: 0.0,
+            clipped: 0,
+        },
+        Metrics::Refused(cause) => Agc2Metrics {
+            refusal: numbers::refusal::number(cause),
+            present: 0,
+            average: 0.0,
+            max: 0.0,
+            clipped: 0,
         },
     }
 }

@@ -13,6 +13,7 @@ pub struct Agc2Layout {
     pub config_size: u32,
     pub record_size: u32,
     pub predictor_config_size: u32,
+    pub metrics_size: u32,
 }
 
 #[no_mangle]
@@ -22,11 +23,12 @@ pub extern "C" fn agc2_layout() -> Agc2Layout
     Agc2Layout {
         control_size: 320,
         control_state: 8,
-        controller_size: 4664,
+        controller_size: 6712,
         controller_control: 8,
         controller_predictor: 328,
         config_size: 44,
-        record_size: 12,
+        record_size: 16,
         predictor_config_size: 24,
+        metrics_size: 20,
     }
 }

@@ -6,18 +6,21 @@ ghost use lib.IntN.{pos};
 ghost use lib.ListN.{getD};
 ghost use Rattle.numbers.specs.Flag.{isSet};
 ghost use Rattle.clipping_predictor_level_buffer.specs.Ring.{storedSays, storedAt};
+ghost use Rattle.clipping_predictor_level_buffer.specs.Metrics.{metricsSays};
 ghost use Rattle.input_volume_controller.specs.Controller.{Good, viewOf};
 ghost use Rattle.input_volume_controller.specs.Control.{controlOf};
 ghost use Rattle.input_volume_controller.specs.Control.{Good as GoodControl};
 ghost use Rattle.input_volume_controller.specs.Plain.{wholeControl};
 ghost use Rattle.input_volume_controller.specs.Reply.{done};
 ghost use Rattle.input_volume_controller.specs.Calls.{initialise, captureSwitch, ControlDoes};
+ghost use Rattle.input_volume_controller.specs.ChannelMetrics.{channelMetrics};
 ghost use Rattle.agc2.specs.Settings.{configOf, predictorConfigOf};
-ghost use Rattle.agc2.specs.Answers.{recordOf, speechLevelOf};
+ghost use Rattle.agc2.specs.Answers.{recordOf, metricsOf, speechLevelOf};
 ghost use Rattle.agc2.specs.Whole.{wholeOf, besideOf};
 ghost use Rattle.agc2.specs.Calls.{CreatedWith, CreatedOf, AnalyzedOf, RecommendedOf};
 use crate::answers::Agc2Control;
 use crate::answers::Agc2Controller;
+use crate::answers::Agc2Metrics;
 use crate::answers::Agc2Record;
 use crate::settings::Agc2Config;
 use crate::settings::Agc2PredictorConfig;
@@ -213,4 +216,18 @@ pub extern "C" fn agc2_stored_record_by_value(
     ensures { λ r. ⌜ r ≡ recordOf (storedSays (storedAt (getD (viewOf (wholeOf controller) .predictor .rings) channel []) i)) ⌝ }
 {
     answers::record_of(whole(controller).stored_record(channel, i))
+}
+
+// The metrics over `num_items` records that a channel's ring stores, behind the newest `delay`. Refuses with 11.
+#[no_mangle]
+pub extern "C" fn agc2_compute_partial_metrics_by_value(
+    controller: Agc2Controller,
+    channel: usize,
+    delay: i32,
+    num_items: i32,
+) -> Agc2Metrics
+    requires { ⌜ Good (wholeOf controller) ⌝ }
+    ensures { λ r. ⌜ r ≡ metricsOf (metricsSays (channelMetrics (viewOf (wholeOf controller) .predictor) channel delay «num_items»)) ⌝ }
+{
+    answers::metrics_of(whole(controller).compute_partial_metrics(channel, delay, num_items))
 }

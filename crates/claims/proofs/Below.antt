@@ -21,6 +21,7 @@ use Rattle.clipping_predictor_level_buffer.specs.declared.Metrics.{Metrics}
 use Rattle.clipping_predictor_level_buffer.specs.Level.{maxSamplesPerChannel, measuredSays, measuredIf, measureOf, measuredTwoSays, measuredTwoIf, measureTwoOf}
 use Rattle.clipping_predictor_level_buffer.specs.Making as Ring
 use Rattle.clipping_predictor_level_buffer.specs.Ring.{maxCapacity}
+use Rattle.clipping_predictor_level_buffer.specs.Pushing.{isCount, pushingOf, pushIf}
 use Rattle.clipping_predictor_level_buffer.specs.Metrics.{metricsSays, foundIf, metricsIf, partialMetrics, computePartialMetrics}
 use Rattle.clipping_predictor.specs.Predictor.{Predictor, frameFits, outcomeIf, enteredIf}
 use Rattle.clipping_predictor.specs.FrameLevels.{measuringIf, measuringOf}
@@ -31,7 +32,7 @@ use Rattle.mono_input_volume_controller.specs.SpeechLevel.{lowestDb, highestDb,
 use Rattle.mono_input_volume_controller.specs.Config.{bothInRange}
 use Rattle.mono_input_volume_controller.specs.SpeechError.{speechErrorSays, errorIfInRange, speechErrorOf}
 use Rattle.claims.specs.Causes.{Cause, firstOf}
-use Rattle.claims.specs.RefusedBelow.{volumeStepCauses, predictorFrameCauses, levelCauses, twoLevelsCauses, frameLevelsCauses, ringCauses, metricsCauses, targetCauses, RefusedBelow}
+use Rattle.claims.specs.RefusedBelow.{volumeStepCauses, predictorFrameCauses, levelCauses, twoLevelsCauses, frameLevelsCauses, ringCauses, pushCauses, metricsCauses, targetCauses, RefusedBelow}
 use Rattle.claims.proofs.Causes.{less-is, above-is, either, or-true, one-outside-is, isOutside, within-is, misfit-is}
 use Rattle.claims.proofs.BelowMaking.{predictor-first, predictor-beside}
 use Rattle.claims.proofs.BelowEstimates.{estimate-first}
@@ -136,6 +137,19 @@ unfolding Ring.makingOf Ring.capacityOf
 ring-first (pos n) = accepted-first (leb (max 1 n) maxCapacity) ∙ ap (λ (t : Bool). firstOf (only 11 t)) (ap not (at-least-one n) ∙ sym (less-is n 64))
 ring-first (negsuc n) = refl
 
+push-first : (clipped : ℤ) → refusalIn (outcomeSays (pushingOf clipped)) ≡ firstOf (pushCauses clipped)
+unfolding pushingOf isCount
+push-first (pos n) = accepted-first (leb n maxSamplesPerChannel) ∙ ap (λ (t : Bool). firstOf (only 11 t)) (sym (λ i. le-ltb n 0 zero-le i || less-is n 480 i))
+push-first (negsuc n) = refl
+
+if-unpushed : (t : Bool) (capacity : ℕ) (level : Level) (stored : List Level) (number : ℕ) → refusalIn (outcomeSays (Ring.acceptedIf t)) ≡ some number → pushIf t capacity level stored ≡ stored
+if-unpushed true capacity level stored number e = let z : _≡_ {A = ℕ} 0 1 = cc in absurd (omega arith)
+if-unpushed false capacity level stored number e = refl
+
+unpushed-so : (clipped : ℤ) (capacity : ℕ) (level : Level) (stored : List Level) (number : ℕ) → refusalIn (outcomeSays (pushingOf clipped)) ≡ some number → pushIf (isCount clipped) capacity level stored ≡ stored
+unfolding pushingOf
+unpushed-so clipped = if-unpushed (isCount clipped)
+
 found-accepted : (t : Bool) (items : List Level) → refusalIn (metricsSays (foundIf t items)) ≡ none
 found-accepted true items = refl
 found-accepted false items = refl
@@ -176,6 +190,8 @@ refused-below = record {
   two-levels = two-levels-first;
   frame-levels = frame-levels-first;
   ring-making = ring-first;
+  push = push-first;
+  unpushed = unpushed-so;
   metrics = metrics-first;
   speech-error = speech-error-first;
 }

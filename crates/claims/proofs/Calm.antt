@@ -20,7 +20,7 @@ use Rattle.mono_input_volume_controller.specs.declared.config.Settings.{Setting
 use Rattle.mono_input_volume_controller.specs.declared.speech_level.SpeechLevel.{SpeechLevel}
 use Rattle.input_volume_controller.specs.declared.Applied.{Applied}
 use Rattle.input_volume_controller.specs.declared.Applied.the-variants.{Nothing, Volume}
-use Rattle.input_volume_controller.specs.ClippedRatio.{oneIf}
+use Rattle.clipping_predictor_level_buffer.specs.Clipped.{oneIf}
 use Rattle.mono_input_volume_controller.specs.MonoState.{maxInputVolume}
 use Rattle.input_volume_controller.specs.ControlCalls.{aggregated, initialize, processChannels}
 use Rattle.input_volume_controller.specs.Controller.{Controller}

@@ -13,6 +13,7 @@ use Rattle.claims.proofs.UnmarkedFrame.{unmarked-is-exact}
 use Rattle.claims.proofs.UnmarkedRun.{unmarked-run-is-exact}
 use Rattle.claims.proofs.TwoPasts.{one-fewer-is-enough}
 use Rattle.claims.proofs.Free.{free-is-unheard}
+use Rattle.claims.proofs.Counts.{counts-are-unread, counts-within}
 use Rattle.claims.proofs.TwoMakings.{two-pasts, two-pasts-by-default}
 use Rattle.claims.proofs.EveryMode.{two-pasts-in-every-mode}
 use Rattle.claims.proofs.Exists.{lead-ins-exist}
@@ -34,6 +35,8 @@ claims = record {
   library = library-runs-are-runs;
   runs-exist = runs-exist;
   free = free-is-unheard;
+  counts = counts-are-unread;
+  counts-within = counts-within;
   refused = refused-calls;
   refused-below = refused-below;
   bounds = bounds;

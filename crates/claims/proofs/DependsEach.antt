@@ -26,7 +26,9 @@ use Rattle.mono_input_volume_controller.specs.declared.speech_level.SpeechLevel
 use Rattle.mono_input_volume_controller.specs.SpeechLevel.{rmsErrorOf}
 use Rattle.mono_input_volume_controller.specs.Mono.{isUsers}
 use Rattle.mono_input_volume_controller.specs.Config.{defaults, settingsFrom, settingsOf}
-use Rattle.input_volume_controller.specs.ClippedRatio.{countOf, clippedIn, mostClipped, clippedRatio}
+use Rattle.clipping_predictor_level_buffer.specs.Clipped.{countOf, clippedIn, total}
+use Rattle.clipping_predictor.specs.MostClipped.{mostClipped}
+use Rattle.input_volume_controller.specs.ClippedRatio.{clippedRatio}
 use Rattle.input_volume_controller.specs.Channels.{called, aggregateOf}
 use Rattle.input_volume_controller.specs.ControlCalls.{withAppliedInputVolume, initialize, lowerChannels}
 use Rattle.input_volume_controller.specs.Controller.{predictorSettings, basePredictor}
@@ -127,7 +129,7 @@ record Examples : Type 0 where
   by-pending-volume : Example pendingVolume
 
 examples : Examples
-unfolding saidBy lastIn shown listed withinOf minus less atMost within magnitudeOf Decibel.levelOf dbfs gain walk frameRecord metricsOver partialMetrics sum mean largest dropBy adaptiveDrop estimateTree pushEach frameFits estimated after answers called aggregateOf countOf clippedIn mostClipped clippedRatio rmsErrorOf isUsers defaults settingsFrom settingsOf withAppliedInputVolume initialize lowerChannels analyzeInputAudio recommendInputVolume ofInt ofBits add mul div lt le
+unfolding saidBy lastIn shown listed withinOf minus less atMost within magnitudeOf Decibel.levelOf dbfs gain walk frameRecord metricsOver partialMetrics sum mean largest dropBy adaptiveDrop estimateTree pushEach frameFits estimated after answers called aggregateOf countOf clippedIn total mostClipped clippedRatio rmsErrorOf isUsers defaults settingsFrom settingsOf withAppliedInputVolume initialize lowerChannels analyzeInputAudio recommendInputVolume ofInt ofBits add mul div lt le
 examples = record {
   -- a clipped frame has started the wait, which is of one frame or of 300
   by-settings = record {
@@ -247,7 +249,7 @@ record Open : Type 0 where
   other-shows : standing unraised .control .volume ≡ 10
 
 open-volume : Open
-unfolding listed withinOf minus less atMost magnitudeOf Decibel.levelOf dbfs frameRecord metricsOver partialMetrics sum mean largest dropBy adaptiveDrop estimateTree pushEach frameFits estimated after called aggregateOf countOf clippedIn mostClipped clippedRatio defaults settingsFrom settingsOf withAppliedInputVolume initialize lowerChannels analyzeInputAudio ofInt ofBits add mul div lt le
+unfolding listed withinOf minus less atMost magnitudeOf Decibel.levelOf dbfs frameRecord metricsOver partialMetrics sum mean largest dropBy adaptiveDrop estimateTree pushEach frameFits estimated after called aggregateOf countOf clippedIn total mostClipped clippedRatio defaults settingsFrom settingsOf withAppliedInputVolume initialize lowerChannels analyzeInputAudio ofInt ofBits add mul div lt le
 open-volume = record {
   agree = record { in-settings = λ h. (refl, refl); in-one-channel = λ h. refl; in-rings = λ h. refl; in-since-clipping = λ h. refl; in-pending-volume = λ h. refl };
   one-taken = refl;

@@ -24,7 +24,7 @@ use Rattle.clipping_predictor_level_buffer.specs.Level.{frameRecord}
 use Rattle.clipping_predictor.specs.declared.settings.Settings as Predictor
 use Rattle.clipping_predictor.specs.Predictor.{partOf, levelsOf, frameFits}
 use Rattle.mono_input_volume_controller.specs.declared.speech_level.SpeechLevel.the-variants.{Absent}
-use Rattle.input_volume_controller.specs.ClippedRatio.{oneIf}
+use Rattle.clipping_predictor_level_buffer.specs.Clipped.{oneIf}
 use Rattle.input_volume_controller.specs.Calls.{Call, frame}
 use Rattle.claims.specs.Past.{isAccepted}
 use Rattle.claims.specs.LeadIn.{all, acceptedBy, acceptedIn, isQuiet, quiet, isSound, comparedIn, isLow, quietFor, isCalm}

@@ -78,9 +78,9 @@ stored-for c l m h =
     ∙ ap (λ (x : ℕ). getD l x noLevel) (there-and-back c i (omega arith)) in
     listed-same _ _ (length l) at ∙ listed-back l noLevel
 
-good-ring : (c : ℕ) (l : List Level) → 1 ≤ c → c ≤ maxCapacity → length l ≤ c → Ring.Good (ringFor c l)
+good-ring : (c : ℕ) (l : List Level) → 1 ≤ c → c ≤ maxCapacity → length l ≤ c → Ring.Counted l → Ring.Good (ringFor c l)
 unfolding ringFor
-good-ring c l low high h = record { low = low; high = high; held = h; within = omega arith; places = length-listed _ maxCapacity }
+good-ring c l low high h k = record { low = low; high = high; held = h; within = omega arith; places = length-listed _ maxCapacity; counted = subst Ring.Counted (sym (stored-for c l high h)) k }
 
 empty-list : {A : Type 0} (l : List A) → length l ≤ 0 → l ≡ []
 empty-list [] h = refl
@@ -94,12 +94,12 @@ capacity-most false n k h = omega arith
 good-for : (s : PredictorSettings.Settings) (l : List Level) → Predictors.Good s → Holds s l → GoodFor s (ringFor (s .delay + s .reference) l)
 good-for s l g h =
     let c : ℕ = s .delay + s .reference in
-    let most : length l ≤ c = capacity-most (s .enabled) c (length l) h in
+    let most : length l ≤ c = capacity-most (s .enabled) c (length l) (h .held) in
     record {
       settings = g;
-      ring = good-ring c l (omega (arith, g .reference-low)) (g .room) most;
+      ring = good-ring c l (omega (arith, g .reference-low)) (g .room) most (h .counted);
       capacity = unfold ringFor in refl;
-      off = λ e. stored-for c l (g .room) most ∙ empty-list l (subst (λ (b : Bool). length l ≤ capacityIf b c) e h);
+      off = λ e. stored-for c l (g .room) most ∙ empty-list l (subst (λ (b : Bool). length l ≤ capacityIf b c) e (h .held));
     }
 
 -- ---- the predictor
@@ -128,7 +128,7 @@ predictor-for n p low high s =
         each = λ i h. subst (GoodFor (p .settings)) (sym (at i h)) (good-for (p .settings) (getD (p .rings) i []) (s .settings) (holds i h));
       };
       is =
-          let rings = listed-same _ _ (length (p .rings)) (λ i h. ap stored (at i h) ∙ stored-for c (getD (p .rings) i []) (s .settings .room) (capacity-most (p .settings .enabled) c _ (holds i h)))
+          let rings = listed-same _ _ (length (p .rings)) (λ i h. ap stored (at i h) ∙ stored-for c (getD (p .rings) i []) (s .settings .room) (capacity-most (p .settings .enabled) c _ (holds i h .held)))
           ∙ listed-back (p .rings) [] in
           λ i. record { settings = p .settings; rings = rings i };
       count = refl;
@@ -209,6 +209,6 @@ good-sane c g =
         settings = g .predictor .settings;
         count = length-listed _ (c .predictor .channels) ∙ g .counts;
         each = every-listed (Holds s) (λ i. stored (ringAt (c .predictor) i)) (c .predictor .channels)
-            (λ i h. let f = g .predictor .each i h in ring-holds (s .enabled) (s .delay + s .reference) (ringAt (c .predictor) i) (omega (arith, f .ring .held, f .capacity)) (f .off));
+            (λ i h. let f = g .predictor .each i h in record { held = ring-holds (s .enabled) (s .delay + s .reference) (ringAt (c .predictor) i) (omega (arith, f .ring .held, f .capacity)) (f .off); counted = f .ring .counted });
       };
     }

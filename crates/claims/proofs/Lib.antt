@@ -49,6 +49,8 @@ pub mod Exists
 pub mod OneSample
 pub mod TooFew
 pub mod Free
+pub mod Uncounted
+pub mod Counts
 pub mod TwoMakings
 pub mod Sane
 pub mod Inverse

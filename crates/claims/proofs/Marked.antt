@@ -38,7 +38,9 @@ use Rattle.mono_input_volume_controller.specs.SameVolumes.{sameVolumes}
 use Rattle.mono_input_volume_controller.specs.Config.{defaults, settingsFrom}
 use Rattle.input_volume_controller.specs.declared.Applied.{Applied}
 use Rattle.input_volume_controller.specs.declared.Applied.the-variants.{Nothing, Volume}
-use Rattle.input_volume_controller.specs.ClippedRatio.{countOf, clippedIn, mostClipped, clippedRatio}
+use Rattle.clipping_predictor_level_buffer.specs.Clipped.{countOf, clippedIn, total}
+use Rattle.clipping_predictor.specs.MostClipped.{mostClipped}
+use Rattle.input_volume_controller.specs.ClippedRatio.{clippedRatio}
 use Rattle.input_volume_controller.specs.Channels.{called, aggregateOf}
 use Rattle.input_volume_controller.specs.ControlCalls.{withAppliedInputVolume, lowerChannels}
 use Rattle.input_volume_controller.specs.Controller.{Controller}
@@ -167,7 +169,7 @@ record Shown : Type 0 where
   alone : replyToSilence (pos 500) ≡ mark false
 
 computed : Shown
-unfolding listed withinOf minus less atMost within magnitudeOf Decibel.levelOf dbfs gain walk first frameRecord metricsOver partialMetrics sum mean largest dropBy adaptiveDrop estimateTree pushEach frameFits estimated lowerDifferently differ otherVolumes sameVolumes isUsers withInputVolume handledClipping after called aggregateOf countOf clippedIn mostClipped clippedRatio defaults settingsFrom withAppliedInputVolume lowerChannels analyzeInputAudio ofInt ofBits add mul div lt le
+unfolding listed withinOf minus less atMost within magnitudeOf Decibel.levelOf dbfs gain walk first frameRecord metricsOver partialMetrics sum mean largest dropBy adaptiveDrop estimateTree pushEach frameFits estimated lowerDifferently differ otherVolumes sameVolumes isUsers withInputVolume handledClipping after called aggregateOf countOf clippedIn total mostClipped clippedRatio defaults settingsFrom withAppliedInputVolume lowerChannels analyzeInputAudio ofInt ofBits add mul div lt le
 computed = record { at-six = refl; at-seven = refl; missing = refl; alike = refl; both = refl; alone = refl }
 
 -- THE CLAIM

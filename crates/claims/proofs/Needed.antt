@@ -24,7 +24,9 @@ use Rattle.clipping_predictor.specs.Predictor.{pushEach, frameFits}
 use Rattle.mono_input_volume_controller.specs.declared.config.Settings.{Settings}
 use Rattle.mono_input_volume_controller.specs.declared.config.Checked.the-variants.{InOrder}
 use Rattle.mono_input_volume_controller.specs.declared.speech_level.SpeechLevel.the-variants.{Absent}
-use Rattle.input_volume_controller.specs.ClippedRatio.{countOf, clippedIn, mostClipped, clippedRatio}
+use Rattle.clipping_predictor_level_buffer.specs.Clipped.{countOf, clippedIn, total}
+use Rattle.clipping_predictor.specs.MostClipped.{mostClipped}
+use Rattle.input_volume_controller.specs.ClippedRatio.{clippedRatio}
 use Rattle.mono_input_volume_controller.specs.SpeechLevel.{rmsErrorOf}
 use Rattle.mono_input_volume_controller.specs.Mono.{isUsers}
 use Rattle.mono_input_volume_controller.specs.Config.{defaults, settingsFrom, settingsOf}
@@ -105,7 +107,7 @@ record Shown : Type 0 where
   unkept : storedIn (after-calls (withCaptureOff lead) (initialise ∷ [])) ≡ 1
 
 computed : Shown
-unfolding volumeIn lengthOf storedIn after-calls past-clipped past-started lead listed withinOf minus less atMost within magnitudeOf Decibel.levelOf dbfs gain walk frameRecord metricsOver partialMetrics sum mean largest dropBy adaptiveDrop estimateTree pushEach frameFits estimated after answers called aggregateOf countOf clippedIn mostClipped clippedRatio rmsErrorOf isUsers defaults settingsFrom withAppliedInputVolume initialize lowerChannels analyzeInputAudio recommendInputVolume ofInt ofBits add mul div lt le
+unfolding volumeIn lengthOf storedIn after-calls past-clipped past-started lead listed withinOf minus less atMost within magnitudeOf Decibel.levelOf dbfs gain walk frameRecord metricsOver partialMetrics sum mean largest dropBy adaptiveDrop estimateTree pushEach frameFits estimated after answers called aggregateOf countOf clippedIn total mostClipped clippedRatio rmsErrorOf isUsers defaults settingsFrom withAppliedInputVolume initialize lowerChannels analyzeInputAudio recommendInputVolume ofInt ofBits add mul div lt le
 computed = record { lowered = refl; unlowered = refl; muted = refl; unmuted = refl; kept = refl; unkept = refl }
 
 -- THE CLAIM

@@ -11,7 +11,7 @@ use lib.Ieee.{Float, nan, inf, fin, up, down, lt, eq, le, isNan, ofInt}
 use lib.Ieee.Fits.{down-pos}
 use Rattle.levels.specs.FloatParts.{magnitudeOf}
 use Rattle.levels.proofs.Quiet.{loudest}
-use Rattle.input_volume_controller.specs.ClippedRatio.{isClipped}
+use Rattle.clipping_predictor_level_buffer.specs.Clipped.{isClipped}
 use Rattle.claims.specs.LeadIn.{isQuiet, isSound}
 use Rattle.claims.proofs.Lists.{and-l, and-r, and-both}
 

@@ -22,7 +22,7 @@ use Rattle.claims.specs.Every.{Every}
 use Rattle.claims.specs.RunsExist.{HasRun, HasMaking, RunsExist}
 use Rattle.claims.proofs.Every.{every-replicate}
 use Rattle.claims.proofs.Fresh.{making-fresh}
-use Rattle.claims.proofs.Sane.{Holds, Sane, step-sane}
+use Rattle.claims.proofs.Sane.{Holds, holds-nothing, Sane, step-sane}
 use Rattle.claims.proofs.Inverse.{inverse, good-sane}
 
 -- ---- runs
@@ -49,7 +49,7 @@ fresh-sane p s count k g low high = record {
   predictor = record {
     settings = k;
     count = length-replicate count [];
-    each = every-replicate (Holds p) count [] zero-le;
+    each = every-replicate (Holds p) count [] (holds-nothing p);
   };
 }
 

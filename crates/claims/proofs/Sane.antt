@@ -1,6 +1,6 @@
 -- What the value of a controller in good order has, every call keeps: settings in good order, 1 to 8 channels each in good order, a volume of at most 255, and as many rings, none over its
--- capacity. Assumes nothing.
-use mathlib.Core.Path.{_≡_, _∙_}
+-- capacity, in which every count is in range. Assumes nothing.
+use mathlib.Core.Path.{_≡_, refl, _∙_}
 use mathlib.Core.Bool.{Bool, true, false, _||_}
 use mathlib.Core.List.{List, [], _∷_}
 use Prim.Native.Nat.{ℕ, _+_, _≤_, max, zero-le}
@@ -12,12 +12,17 @@ use Rattle.numbers.specs.declared.natural.Natural.{Natural}
 use Rattle.numbers.specs.declared.natural.Natural.the-variants.{Number, Outside}
 use Rattle.numbers.specs.Natural.{withinOf}
 use Rattle.clipping_predictor_level_buffer.specs.declared.level.Level.{Level}
+use Rattle.clipping_predictor_level_buffer.specs.Level.{maxSamplesPerChannel, frameRecord}
+use Rattle.clipping_predictor_level_buffer.specs.Ring.{Counted}
+use Rattle.clipping_predictor_level_buffer.proofs.Counts.{counted-none, counted-push}
 use Rattle.clipping_predictor.specs.declared.modes.Estimated.{Estimated}
 use Rattle.clipping_predictor.specs.declared.settings.Settings as PredictorSettings
 use Rattle.clipping_predictor.specs.Settings as Predictors
 use Rattle.clipping_predictor.specs.Estimate.{capacityOf}
-use Rattle.clipping_predictor.specs.Predictor.{maxChannels, Predictor, levelsOf, pushEach, frameFits, enteredIf, emptied}
+use Rattle.clipping_predictor.specs.Predictor.{maxChannels, Predictor, partOf, levelsOf, pushEach, frameFits, enteredIf, emptied}
 use Rattle.clipping_predictor.specs.AllRings.{predictedBy}
+use Rattle.clipping_predictor.proofs.Frames.{fits}
+use Rattle.clipping_predictor.proofs.MostClipped.{part-few}
 use Rattle.mono_input_volume_controller.specs.declared.mono.MonoInputVolumeController.{MonoInputVolumeController}
 use Rattle.mono_input_volume_controller.specs.declared.speech_level.SpeechLevel.{SpeechLevel}
 use Rattle.mono_input_volume_controller.specs.SpeechLevel.{rmsErrorOf}
@@ -39,7 +44,7 @@ use Rattle.input_volume_controller.specs.Recommendation.{recommendIf, unlessNon
 use Rattle.input_volume_controller.specs.Calls.{Call, frame, recommendation, initialise, captureSwitch, step}
 use Rattle.input_volume_controller.proofs.Whole.{entered-count, emptied-count}
 use Rattle.claims.specs.Every.{Every}
-use Rattle.claims.proofs.Every.{every-map}
+use Rattle.claims.proofs.Every.{every-map, every-listed}
 use Rattle.claims.proofs.Walk.{Keeps, step-keeps}
 use Rattle.claims.proofs.Sound.{good-stays, raised-most}
 
@@ -111,33 +116,45 @@ module _ (n : ℕ) where
 
 -- ---- the predictor
 
-abbrev pub Holds : PredictorSettings.Settings → List Level → Type 0
-Holds p r = length r ≤ capacityOf p
+pub record Holds (p : PredictorSettings.Settings) (r : List Level) : Type 0 where
+  pub held : length r ≤ capacityOf p
+  pub counted : Counted r
+
+pub holds-nothing : (p : PredictorSettings.Settings) → Holds p []
+holds-nothing p = record { held = zero-le; counted = counted-none }
 
 pub record SanePredictor (n : ℕ) (p : Predictor) : Type 0 where
   pub settings : Predictors.Good (p .settings)
   pub count : length (p .rings) ≡ n
   pub each : Every (Holds (p .settings)) (p .rings)
 
-all-pushed : (p : PredictorSettings.Settings) (levels : List Level) (rings : List (List Level)) → Every (Holds p) rings → Every (Holds p) (pushEach (capacityOf p) levels rings)
+-- a level's count is in range
+abbrev Few : Level → Type 0
+Few l = l .clipped ≤ maxSamplesPerChannel
+
+all-pushed : (p : PredictorSettings.Settings) (levels : List Level) (rings : List (List Level)) → Every Few levels → Every (Holds p) rings → Every (Holds p) (pushEach (capacityOf p) levels rings)
 unfolding pushEach
-all-pushed p levels [] h = tt
-all-pushed p [] (r ∷ rings) h = h
-all-pushed p (l ∷ levels) (r ∷ rings) h = (rw length-take (omega arith), all-pushed p levels rings (h .1))
+all-pushed p levels [] f h = tt
+all-pushed p [] (r ∷ rings) f h = h
+all-pushed p (l ∷ levels) (r ∷ rings) f h = (record { held = rw length-take (omega arith); counted = counted-push (capacityOf p) l r (f .0) (h .0 .counted) }, all-pushed p levels rings (f .1) (h .1))
+
+levels-few : (channels samples : ℕ) (lent : List Float) → samples ≤ maxSamplesPerChannel → Every Few (levelsOf channels samples lent)
+unfolding frameRecord
+levels-few channels samples lent most = every-listed Few (λ c. frameRecord (partOf samples lent c)) channels (λ c h. omega (arith, most, part-few samples lent c))
 
 module _ (n : ℕ) where
-  entered-sane : (samples : ℕ) (lent : List Float) (p : Predictor) → SanePredictor n p → SanePredictor n (enteredIf true samples lent p)
-  entered-sane samples lent p h = record {
+  entered-sane : (samples : ℕ) (lent : List Float) (p : Predictor) → samples ≤ maxSamplesPerChannel → SanePredictor n p → SanePredictor n (enteredIf true samples lent p)
+  entered-sane samples lent p most h = record {
     settings = h .settings;
     count = entered-count samples lent p ∙ h .count;
-    each = all-pushed (p .settings) (levelsOf (length (p .rings)) samples lent) (p .rings) (h .each);
+    each = all-pushed (p .settings) (levelsOf (length (p .rings)) samples lent) (p .rings) (levels-few (length (p .rings)) samples lent most) (h .each);
   }
 
   emptied-sane : (p : Predictor) → SanePredictor n p → SanePredictor n (emptied p)
   emptied-sane p h = record {
     settings = h .settings;
     count = emptied-count p ∙ h .count;
-    each = every-map (Holds (p .settings)) (Holds (p .settings)) (λ (r : List Level). []) (p .rings) (λ r k. zero-le) (h .each);
+    each = every-map (Holds (p .settings)) (Holds (p .settings)) (λ (r : List Level). []) (p .rings) (λ r k. holds-nothing (p .settings)) (h .each);
   }
 
   handled-sane : (t : Bool) (by : ℕ) (c : Controller) → SanePredictor n (c .predictor) → SanePredictor n (handleIf t by c .predictor)
@@ -150,17 +167,18 @@ module _ (n : ℕ) where
       let e : Estimated = predictedBy (askedOf (c .control)) (c .predictor) in
       handled-sane (clipped || ltb 0 (e .drop)) (max (c .control .settings .step) (e .drop)) c h
 
-  used-sane : (t : Bool) (samples : ℕ) (lent : List Float) (c : Controller) → SanePredictor n (c .predictor) → SanePredictor n (ifUsed t samples lent c .state .predictor)
-  used-sane true samples lent c h =
+  used-sane : (t : Bool) (samples : ℕ) (lent : List Float) (c : Controller) → samples ≤ maxSamplesPerChannel → SanePredictor n (c .predictor) → SanePredictor n (ifUsed t samples lent c .state .predictor)
+  used-sane true samples lent c most h =
       waiting-sane (ltb (c .control .since) (c .control .settings .«clipped_wait»))
       (lt (c .control .settings .«clipped_ratio») (clippedRatio (length (c .control .channels)) samples lent))
-      (record { control = c .control; predictor = enteredIf true samples lent (c .predictor) }) (entered-sane samples lent (c .predictor) h)
-  used-sane false samples lent c h = h
+      (record { control = c .control; predictor = enteredIf true samples lent (c .predictor) }) (entered-sane samples lent (c .predictor) most h)
+  used-sane false samples lent c most h = h
 
-  frame-sane : (v : Natural) (fits : Bool) (samples : ℕ) (lent : List Float) (c : Controller) → SanePredictor n (c .predictor) → SanePredictor n (unlessRefused v fits samples lent c .state .predictor)
-  frame-sane Outside fits samples lent c h = h
-  frame-sane (Number volume) false samples lent c h = h
-  frame-sane (Number volume) true samples lent c h = used-sane (c .control .used) samples lent (withVolumeApplied volume c) h
+  frame-sane : (v : Natural) (fit : Bool) (samples : ℕ) (lent : List Float) (c : Controller) → frameFits (length (c .control .channels)) samples lent ≡ fit → SanePredictor n (c .predictor)
+      → SanePredictor n (unlessRefused v fit samples lent c .state .predictor)
+  frame-sane Outside fit samples lent c e h = h
+  frame-sane (Number volume) false samples lent c e h = h
+  frame-sane (Number volume) true samples lent c e h = used-sane (c .control .used) samples lent (withVolumeApplied volume c) (fits (length (c .control .channels)) samples lent e .most) h
 
   recommended-sane : (t : Bool) (applied : ℕ) (probability : Float) (level : SpeechLevel) (c : Controller) → SanePredictor n (c .predictor) → SanePredictor n (recommendIf t applied probability level c .state .predictor)
   recommended-sane true applied probability level c h = h
@@ -172,7 +190,7 @@ module _ (n : ℕ) where
 
   predictor-sane : (call : Call) (c : Controller) → SanePredictor n (c .predictor) → SanePredictor n (step c call .state .predictor)
   unfolding analyzeInputAudio recommendInputVolume
-  predictor-sane (frame volume samples lent) c h = frame-sane (withinOf 0 maxInputVolume volume) (frameFits (length (c .control .channels)) samples lent) samples lent c h
+  predictor-sane (frame volume samples lent) c h = frame-sane (withinOf 0 maxInputVolume volume) (frameFits (length (c .control .channels)) samples lent) samples lent c refl h
   predictor-sane (recommendation probability level) c h = asked-sane (c .control .applied) probability level c h
   predictor-sane initialise c h = h
   predictor-sane (captureSwitch on) c h = h

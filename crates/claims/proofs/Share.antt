@@ -15,7 +15,9 @@ use lib.Ieee.Exact.{HasValue, round-exact}
 use Rattle.numbers.specs.Listed.{listed}
 use Rattle.clipping_predictor_level_buffer.specs.Statistics.{plusZero}
 use Rattle.clipping_predictor.specs.Predictor.{partOf}
-use Rattle.input_volume_controller.specs.ClippedRatio.{oneIf, isClipped, countOf, clippedIn, mostClipped, clippedRatio}
+use Rattle.clipping_predictor_level_buffer.specs.Clipped.{oneIf, isClipped, countOf, clippedIn, total}
+use Rattle.clipping_predictor.specs.MostClipped.{mostClipped}
+use Rattle.input_volume_controller.specs.ClippedRatio.{clippedRatio}
 use Rattle.claims.specs.LeadIn.{all, isSound}
 use Rattle.claims.proofs.Lists.{and-l, and-r, is-false, all-take, all-drop}
 
@@ -34,7 +36,7 @@ none-in-each f zero h = refl
 none-in-each f (suc n) h = ap (λ (k : ℕ). foldl max (max 0 k) (map clippedIn (listed (λ i. f (suc i)) n))) (h 0) ∙ none-in-each (λ i. f (suc i)) n (λ i. h (suc i))
 
 none-clipped : (channels samples : ℕ) (lent : List Float) → T (all isSound lent) → mostClipped channels samples lent ≡ 0
-unfolding mostClipped clippedIn
+unfolding mostClipped clippedIn total
 none-clipped channels samples lent t =
     none-in-each (partOf samples lent) channels (λ i. none-in (partOf samples lent i) (all-take isSound samples _ (all-drop isSound (i * samples) lent t)))
 

@@ -19,7 +19,8 @@ use Rattle.clipping_predictor.specs.Estimate.{dropBy, adaptiveDrop}
 use Rattle.mono_input_volume_controller.specs.SpeechLevel.{held, errorOf, rmsErrorOf}
 use Rattle.mono_input_volume_controller.specs.Mono.{isUsers}
 use Rattle.mono_input_volume_controller.proofs.Users.{apart, users-exactly}
-use Rattle.input_volume_controller.specs.ClippedRatio.{mostClipped, clippedRatio}
+use Rattle.clipping_predictor.specs.MostClipped.{mostClipped}
+use Rattle.input_volume_controller.specs.ClippedRatio.{clippedRatio}
 use Rattle.claims.specs.Starred.{tenth, StarredCases}
 
 -- the ratio of a frame of 480 samples is that of its most clipped channel

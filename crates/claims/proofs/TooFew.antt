@@ -36,7 +36,9 @@ use Rattle.mono_input_volume_controller.specs.declared.config.Config.{Config}
 use Rattle.mono_input_volume_controller.specs.declared.config.Settings.{Settings}
 use Rattle.mono_input_volume_controller.specs.declared.config.Checked.the-variants.{InOrder}
 use Rattle.mono_input_volume_controller.specs.declared.speech_level.SpeechLevel.the-variants.{Absent}
-use Rattle.input_volume_controller.specs.ClippedRatio.{countOf, clippedIn, mostClipped, clippedRatio}
+use Rattle.clipping_predictor_level_buffer.specs.Clipped.{countOf, clippedIn, total}
+use Rattle.clipping_predictor.specs.MostClipped.{mostClipped}
+use Rattle.input_volume_controller.specs.ClippedRatio.{clippedRatio}
 use Rattle.mono_input_volume_controller.specs.Config.{defaults, settingsFrom, settingsOf}
 use Rattle.input_volume_controller.specs.Channels.{called, aggregateOf}
 use Rattle.input_volume_controller.specs.ControlCalls.{withAppliedInputVolume, initialize, lowerChannels}
@@ -218,7 +220,7 @@ record Computed : Type 0 where
   fixed : Shown FixedStepClippingPeakPrediction
 
 computed : Computed
-unfolding shownBy shown lengthOf twelve three-hundred-two three nine smallLead lead listed withinOf minus less atMost within magnitudeOf Decibel.levelOf dbfs gain gainMap walk first searched frameRecord metricsOver partialMetrics sum mean largest dropBy adaptiveDrop estimateTree pushEach frameFits estimated after answers called aggregateOf countOf clippedIn mostClipped clippedRatio defaults settingsFrom withAppliedInputVolume initialize lowerChannels analyzeInputAudio recommendInputVolume ofInt ofBits add mul div lt le callsOf
+unfolding shownBy shown lengthOf twelve three-hundred-two three nine smallLead lead listed withinOf minus less atMost within magnitudeOf Decibel.levelOf dbfs gain gainMap walk first searched frameRecord metricsOver partialMetrics sum mean largest dropBy adaptiveDrop estimateTree pushEach frameFits estimated after answers called aggregateOf countOf clippedIn total mostClipped clippedRatio defaults settingsFrom withAppliedInputVolume initialize lowerChannels analyzeInputAudio recommendInputVolume ofInt ofBits add mul div lt le callsOf
 computed = record {
   filling = record { with-past = refl; without = refl };
   waiting = record { with-past = refl; without = refl };

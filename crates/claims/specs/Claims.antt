@@ -5,6 +5,7 @@
 use Rattle.claims.specs.Run.{RunsAreRuns}
 use Rattle.claims.specs.RunsExist.{RunsExist}
 use Rattle.claims.specs.Free.{FreeIsUnheard}
+use Rattle.claims.specs.Counts.{CountsAreUnread, CountsWithin}
 use Rattle.claims.specs.Library.{LibraryRunsAreRuns}
 use Rattle.claims.specs.Refused.{RefusedCalls}
 use Rattle.claims.specs.RefusedBelow.{RefusedBelow}
@@ -36,6 +37,9 @@ pub record Claims : Type 0 where
   pub runs-exist : RunsExist
   -- what the contracts leave free (tails, unused places, rings and channels past the count) is heard in no answer of any later call
   pub free : FreeIsUnheard
+  -- a record's count of clipped samples is read by metrics alone: controllers equal but for the counts answer every list of calls alike; a count is at most the samples, and a total at most 30,720
+  pub counts : CountsAreUnread
+  pub counts-within : CountsWithin
   -- a refused call changes nothing, and its number is the first cause in the table's order that holds; in a making the predictor's causes come last, whether it is on or off
   pub refused : RefusedCalls
   -- and so say the calls of the crates below

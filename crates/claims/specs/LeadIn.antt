@@ -15,7 +15,7 @@ use Rattle.clipping_predictor.specs.declared.settings.Settings.{Settings}
 use Rattle.clipping_predictor.specs.Estimate.{wholeDb}
 use Rattle.clipping_predictor.specs.Predictor.{levelsOf}
 use Rattle.mono_input_volume_controller.specs.declared.speech_level.SpeechLevel.{SpeechLevel}
-use Rattle.input_volume_controller.specs.ClippedRatio.{isClipped, oneIf}
+use Rattle.clipping_predictor_level_buffer.specs.Clipped.{isClipped, oneIf}
 use Rattle.input_volume_controller.specs.Calls.{Call, frame, recommendation, initialise, captureSwitch}
 use Rattle.claims.specs.Past.{isAccepted}
 

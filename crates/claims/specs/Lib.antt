@@ -16,6 +16,7 @@ pub mod LeadIn
 pub mod TwoPasts
 pub mod Sharp
 pub mod Free
+pub mod Counts
 pub mod Made
 pub mod RunsExist
 pub mod Library

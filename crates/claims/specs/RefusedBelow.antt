@@ -1,7 +1,7 @@
 -- The calls of the crates below the controller say no by the same table: each is refused with the number of the first cause about its inputs that holds. Document 01, "What a call can say no to",
--- with what stands under the table of causes 7, 8 and 10, and document 02 (ii). None of these calls has a state but the predictor's, which a refused frame leaves as before.
+-- with what stands under the table of causes 7, 8 and 10, and document 02 (ii) and (xi). None of these calls has a state but a predictor's, which a refused frame leaves as before, and a ring, which a refused push does.
 -- It reaches the code by the contracts of `compute_volume_update` (gain_map), `create_clipping_predictor`, `ClippingPredictor::{analyze, estimate_clipped_level_step}` and `measuring::measure_channels` (clipping_predictor),
--- `level::{measure, measure_two}` and `ClippingPredictorLevelBuffer::{new, compute_partial_metrics}` (clipping_predictor_level_buffer) and `get_speech_level_rms_error_db` (mono_input_volume_controller): each
+-- `level::{measure, measure_two}`, `ClippingPredictorLevelBuffer::{new, push, push_level, compute_partial_metrics}` and `push_into` (clipping_predictor_level_buffer) and `get_speech_level_rms_error_db` (mono_input_volume_controller): each
 -- says that the answer's number and values are those of the definition that is named here. Definitions only.
 use mathlib.Core.Path.{_≡_}
 use mathlib.Core.Bool.{not, _||_}
@@ -18,6 +18,7 @@ use Rattle.gain_map.specs.VolumeUpdate.{updateSays, volumeUpdateOf}
 use Rattle.clipping_predictor_level_buffer.specs.declared.level.Level.{Level}
 use Rattle.clipping_predictor_level_buffer.specs.Level.{measuredSays, measureOf, measuredTwoSays, measureTwoOf}
 use Rattle.clipping_predictor_level_buffer.specs.Making as Ring
+use Rattle.clipping_predictor_level_buffer.specs.Pushing.{isCount, pushingOf, pushIf}
 use Rattle.clipping_predictor_level_buffer.specs.Metrics.{metricsSays, computePartialMetrics}
 use Rattle.clipping_predictor.specs.declared.settings.ClippingPredictorConfig.{ClippingPredictorConfig}
 use Rattle.clipping_predictor.specs.Predictor.{Predictor, unmadeSettings, emptyPredictor, makingOf, frameFits, outcomeIf, enteredIf}
@@ -66,6 +67,10 @@ frameLevelsCauses channels samples lent = record { number = 1; holds = ltb chann
 abbrev pub ringCauses : ℤ → List Cause
 ringCauses capacity = record { number = 11; holds = ltZ (pos 64) capacity } ∷ []
 
+-- document 02 (xi): "a record pushed with a count not 0 to 480"
+abbrev pub pushCauses : ℤ → List Cause
+pushCauses clipped = record { number = 11; holds = outside (pos 0) (pos 480) clipped } ∷ []
+
 -- "delay negative, item count below 1, or their sum above capacity"
 abbrev pub metricsCauses : ℕ → ℤ → ℤ → List Cause
 metricsCauses capacity delay items = record { number = 11; holds = ltZ delay (pos 0) || (ltZ items (pos 1) || ltZ (pos capacity) (delay +ℤ items)) } ∷ []
@@ -90,5 +95,8 @@ pub record RefusedBelow : Type 0 where
   pub two-levels : (first second : List Float) → refusalIn (measuredTwoSays (measureTwoOf first second)) ≡ firstOf (twoLevelsCauses first second)
   pub frame-levels : (channels samples : ℕ) (lent : List Float) → refusalIn (outcomeSays (measuringOf channels samples lent)) ≡ firstOf (frameLevelsCauses channels samples lent)
   pub ring-making : (capacity : ℤ) → refusalIn (outcomeSays (Ring.makingOf (Ring.capacityOf capacity))) ≡ firstOf (ringCauses capacity)
+  pub push : (clipped : ℤ) → refusalIn (outcomeSays (pushingOf clipped)) ≡ firstOf (pushCauses clipped)
+  -- a refused push stores nothing
+  pub unpushed : (clipped : ℤ) (capacity : ℕ) (level : Level) (stored : List Level) (number : ℕ) → refusalIn (outcomeSays (pushingOf clipped)) ≡ some number → pushIf (isCount clipped) capacity level stored ≡ stored
   pub metrics : (capacity : ℕ) (stored : List Level) (delay items : ℤ) → refusalIn (metricsSays (computePartialMetrics capacity stored delay items)) ≡ firstOf (metricsCauses capacity delay items)
   pub speech-error : (level : SpeechLevel) (min max : ℤ) → refusalIn (speechErrorSays (speechErrorOf level min max)) ≡ firstOf (targetCauses min max)

@@ -8,7 +8,8 @@ use Rattle.input_volume_controller.specs.Controller.{viewOf, Good}
 use Rattle.input_volume_controller.specs.Reply.{Reply}
 use Rattle.input_volume_controller.specs.Calls.{Call, Answer, after, answers, Does}
 
--- what is heard of a call: its reply, and of the controller that it hands back the volume and each ring's stored records
+-- what is heard of a call: its reply, and of the controller that it hands back the volume and each ring's stored records, with their counts. Metrics are worked out from these alone
+-- (`channelMetrics`), so what is heard alike has the same metrics, totals and all
 abbrev pub heard : Reply → InputVolumeController → Answer
 heard says c = record { reply = says; volume = c .control .volume; stored = viewOf c .predictor .rings }
 

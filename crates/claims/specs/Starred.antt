@@ -16,7 +16,8 @@ use Rattle.clipping_predictor.specs.Estimate.{adaptiveTree}
 use Rattle.mono_input_volume_controller.specs.declared.speech_level.SpeechLevel.the-variants.{Dbfs}
 use Rattle.mono_input_volume_controller.specs.declared.speech_level.RmsError.the-variants.{Db}
 use Rattle.mono_input_volume_controller.specs.SpeechLevel.{rmsErrorOf}
-use Rattle.input_volume_controller.specs.ClippedRatio.{mostClipped, clippedRatio}
+use Rattle.clipping_predictor.specs.MostClipped.{mostClipped}
+use Rattle.input_volume_controller.specs.ClippedRatio.{clippedRatio}
 use Rattle.mono_input_volume_controller.specs.Mono.{isUsers}
 
 pub data Case : Type 0 where

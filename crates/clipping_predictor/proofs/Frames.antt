@@ -22,7 +22,7 @@ use Rattle.clipping_predictor.specs.declared.ClippingPredictor.{Clipping
 use Rattle.clipping_predictor.specs.Settings as Settings
 use Rattle.clipping_predictor.specs.Estimate.{capacityIf, capacityOf}
 use Rattle.clipping_predictor.specs.GoodFor.{GoodFor}
-use Rattle.clipping_predictor.specs.Predictor.{Predictor, maxChannels, noRing, ringAt, viewOf, Good, Fresh, partOf, pushEach, frameFits, withLevels, enteredIf, Entered, ResetOf}
+use Rattle.clipping_predictor.specs.Predictor.{Predictor, maxChannels, noRing, ringAt, viewOf, Good, Fresh, partOf, pushEach, frameFits, withLevels, levelsIn, enteredIf, ResetOf}
 
 -- ---- a frame that fits
 
@@ -81,6 +81,11 @@ PushedAt items c old new = Pushed old (getD items c noLevel) new
 
 abbrev pub EmptiedAt : ℕ → ClippingPredictorLevelBuffer → ClippingPredictorLevelBuffer → Type 0
 EmptiedAt c old new = Emptied (old .capacity) new
+
+-- levels have entered the rings
+pub record Entered (p : ClippingPredictor) (items : List Level) (r : ClippingPredictor) : Type 0 where
+  pub good : Good r
+  pub view : viewOf r ≡ withLevels (levelsIn items (p .channels)) (viewOf p)
 
 -- a ring that a level has entered
 module _ (s : Settings) (old new : ClippingPredictorLevelBuffer) (level : Level) (on : s .enabled ≡ true) (good : GoodFor s old) (pushed : Pushed old level new) where

@@ -6,6 +6,8 @@ pub mod Windows
 pub mod Given
 pub mod Frames
 pub mod FrameLevels
+pub mod MostClipped
+pub mod Brought
 pub mod Joins
 pub mod Rings
 pub mod Drops

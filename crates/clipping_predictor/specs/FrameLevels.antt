@@ -19,7 +19,7 @@ use Rattle.clipping_predictor.specs.Predictor.{maxChannels, partOf, fram
 
 -- what stands in a place of the array that no channel has
 abbrev pub silence : Level
-silence = record { average = plusZero; max = plusZero }
+silence = record { average = plusZero; max = plusZero; clipped = 0 }
 
 abbrev pub levelIf : Bool → Level → Level
 levelIf true level = level

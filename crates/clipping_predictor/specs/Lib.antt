@@ -5,5 +5,6 @@ pub mod Estimate
 pub mod GoodFor
 pub mod Predictor
 pub mod FrameLevels
+pub mod MostClipped
 pub mod EstimateCall
 pub mod AllRings

@@ -140,11 +140,6 @@ enteredIf false samples frame p = p
 abbrev pub levelsIn : List Level → ℕ → List Level
 levelsIn items channels = listed (λ c. getD items c noLevel) channels
 
--- they have entered the rings
-pub record Entered (p : ClippingPredictor) (items : List Level) (r : ClippingPredictor) : Type 0 where
-  pub good : Good r
-  pub view : viewOf r ≡ withLevels (levelsIn items (p .channels)) (viewOf p)
-
 -- a frame that does not fit hands the very predictor back
 pub record WithFrame (p : ClippingPredictor) (samples : ℕ) (frame : List Float) (r : ClippingPredictor) : Type 0 where
   pub good : Good r

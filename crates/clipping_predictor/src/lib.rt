@@ -3,11 +3,12 @@
 ghost use mathlib.Core.Path.{_≡_};
 ghost use Prim.Native.Nat.{_*_, _≤_};
 ghost use Rattle.clipping_predictor.specs.Settings.{Good as GoodSettings};
-ghost use Rattle.clipping_predictor.specs.AllRings.{hearing, HeardOf, HeardLevelsOf};
+ghost use Rattle.clipping_predictor.specs.AllRings.{HeardOf, MayEnter, HeardLevelsOf};
 ghost use Rattle.clipping_predictor.specs.Predictor.{maxChannels, Good, viewOf, Fresh, CreatedOf, frameFits, outcomeIf, AnalyzedOf, ResetOf};
 ghost use Rattle.clipping_predictor.specs.EstimateCall.{argumentsOf, dropOr, estimateSays, estimateOf};
-use crate::measuring::Levels;
-use crate::measuring::measure_channels;
+use crate::measuring::Brought;
+use crate::measuring::bring;
+use crate::measuring::hearing;
 pub use crate::modes::Asked;
 pub use crate::modes::Estimated;
 pub use crate::modes::Question;
@@ -48,10 +49,11 @@ pub struct Analyzed {
     pub predictor: ClippingPredictor,
 }
 
-// The predictor after a frame, and what its rings answer then.
+// The predictor after a frame, what its rings answer then, and the most clipped samples that a channel of the frame has.
 pub struct Heard {
     pub predictor: ClippingPredictor,
     pub estimated: Estimated,
+    pub clipped: u32,
 }
 
 // What an estimate is asked with, in range, or why it is refused.
@@ -118,13 +120,6 @@ pub fn frame_fits(channels: u8, samples: usize, frame: &[f32]) -> bool
     frame.len() == (channels as usize) * samples
 }
 
-// How many rings a frame enters: none of a predictor that is off.
-fn hearing(on: bool, channels: usize) -> usize
-    ensures { λ r. ⌜ r ≡ hearing on channels ⌝ }
-{
-    if on { channels } else { 0 }
-}
-
 fn outcome_of(fits: bool) -> Outcome
     ensures { λ r. ⌜ r ≡ outcomeIf fits ⌝ }
 {
@@ -184,47 +179,40 @@ fn arguments_in_range(
 }
 
 impl ClippingPredictor {
-    // The predictor after a frame of all channels, one after another, and what its rings then answer. A frame that does not fit, or that comes to a predictor which is off, changes nothing.
+    // The predictor after a frame of all channels, one after another, what its rings then answer, and the most clipped samples that a channel has. A frame that does not fit, or that comes to a
+    // predictor which is off, enters no ring.
     pub fn heard(self, samples_per_channel: usize, frame: &[f32], question: Question) -> Heard
         requires { ⌜ Good self ⌝ }
         ensures { λ r. ⌜ HeardOf self «samples_per_channel» (now (frame .entry)) question r ⌝ }
     {
-        if !frame_fits(self.channels as u8, samples_per_channel, frame) {
-            return Heard {
-                predictor: self,
-                estimated: modes::no_estimate(),
-            };
-        }
-        if !self.settings.enabled {
-            return Heard {
-                predictor: self,
-                estimated: modes::no_estimate(),
-            };
-        }
-        let measured = measure_channels(self.channels, samples_per_channel, frame);
-        let levels = measured.levels;
-        self.heard_levels(levels, question)
+        let on = self.settings.enabled;
+        let brought = bring(on, self.channels, samples_per_channel, frame, question);
+        self.heard_levels(brought, question)
     }
 
-    // The same of a frame whose levels are measured. They enter the rings of a predictor that is on, and each ring is asked from its place in the array, of which no copy is made then.
-    pub fn heard_levels(self, levels: Levels, question: Question) -> Heard
-        requires { ⌜ Good self ⌝ }
-        ensures { λ r. ⌜ HeardLevelsOf self (levels .items) question r ⌝ }
+    // Each ring is asked from its place in the array, of which no copy is made then. No level is refused, since its count is in range.
+    fn heard_levels(self, brought: Brought, question: Question) -> Heard
+        requires { ⌜ Good self × MayEnter self brought ⌝ }
+        ensures { λ r. ⌜ HeardLevelsOf self brought question r ⌝ }
     {
         let settings = self.settings;
-        let channels = hearing(settings.enabled, self.channels);
+        let channels = hearing(brought.hears, self.channels);
+        let levels = brought.levels;
         let mut p = self;
         let mut e = modes::no_estimate();
         for c in 0..channels {
             let level = levels.items[c];
             let old = p.rings[c];
-            p.rings[c] = old.push(level);
+            let after = old.push_level(level);
+            let pushed = after.ring;
+            p.rings[c] = pushed;
             let ring = p.rings[c];
             e = joined(e, answered(settings, ring, question));
         }
         Heard {
             predictor: p,
             estimated: e,
+            clipped: brought.clipped,
         }
     }
 

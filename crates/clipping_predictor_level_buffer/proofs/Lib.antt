@@ -1,7 +1,10 @@
 pub mod Folds
+pub mod Clipped
 pub mod Steps
 pub mod PeakBits
+pub mod NotClipped
 pub mod Places
+pub mod Counts
 pub mod Records
 pub mod Answers
 pub mod Sums

@@ -1,5 +1,5 @@
 -- The records that a ring stores: how many, one of them, and what a push makes of them. Assumes nothing.
-use mathlib.Core.Path.{_≡_, refl, _∙_}
+use mathlib.Core.Path.{_≡_, refl, sym, subst, _∙_}
 use mathlib.Core.List.{List, [], _∷_}
 use Prim.Native.Nat.{ℕ, zero, suc, _+_, _≤_, _<_, min}
 use native.Mathlib.Nat.{not-suc-le-zero, le-of-suc-le-suc}
@@ -10,8 +10,10 @@ use Rattle.numbers.proofs.Listed.{length-listed, getD-listed, listed-push}
 use Rattle.clipping_predictor_level_buffer.specs.declared.level.Level.{Level}
 use Rattle.clipping_predictor_level_buffer.specs.declared.ClippingPredictorLevelBuffer.{ClippingPredictorLevelBuffer}
 use Rattle.clipping_predictor_level_buffer.specs.declared.Stored.the-variants.{Record, Missing}
-use Rattle.clipping_predictor_level_buffer.specs.Ring.{noLevel, Good, behind, after, placed, stored, storedAt, Pushed}
+use Rattle.clipping_predictor_level_buffer.specs.Level.{maxSamplesPerChannel}
+use Rattle.clipping_predictor_level_buffer.specs.Ring.{noLevel, Counted, Good, behind, after, placed, stored, storedAt, push, Pushed}
 use Rattle.clipping_predictor_level_buffer.proofs.Places.{after-within, behind-none, behind-next, behind-other}
+use Rattle.clipping_predictor_level_buffer.proofs.Counts.{counted-push}
 
 pub length-stored : (r : ClippingPredictorLevelBuffer) → length (stored r) ≡ r .size
 unfolding stored
@@ -69,10 +71,20 @@ module _ (s : ClippingPredictorLevelBuffer) (level : Level) (ok : Good s) where
   unfolding placed
   older i h = rw (behind-next c t i (ok .within) h, getD-set-other (s .data) (after c t) (behind c t i) level noLevel (behind-other c t i (ok .within) h))
 
-  pub pushed : Pushed s level (with-level s level)
+  its-stored : stored (with-level s level) ≡ push c level (stored s)
   unfolding stored
-  pushed = record {
-    good = record { low = ok .low; high = ok .high; held = omega arith; within = after-within c t (ok .within); places = simp length-set (ok .places) };
+  its-stored = listed-push (placed (s .data) c t) (placed (set (s .data) (after c t) level) c (after c t)) level c (s .size) (ok .low) newest older
+
+  pub pushed : level .clipped ≤ maxSamplesPerChannel → Pushed s level (with-level s level)
+  pushed h = record {
+    good = record {
+      low = ok .low;
+      high = ok .high;
+      held = omega arith;
+      within = after-within c t (ok .within);
+      places = simp length-set (ok .places);
+      counted = subst Counted (sym its-stored) (counted-push c level (stored s) h (ok .counted));
+    };
     capacity-is = refl;
-    stored-is = listed-push (placed (s .data) c t) (placed (set (s .data) (after c t) level) c (after c t)) level c (s .size) (ok .low) newest older;
+    stored-is = its-stored;
   }

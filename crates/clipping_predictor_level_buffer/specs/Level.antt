@@ -1,4 +1,4 @@
--- Document 01, "Levels": "Each frame and channel yields a record of two floats, mean square and peak. .. squares are summed from 0 in sample order, then divided by the sample count.
+-- Document 01, "Levels", with document 02 (xi): "Each frame and channel yields a record of two floats, mean square and peak", which "gains the number of clipped samples". ".. squares are summed from 0 in sample order, then divided by the sample count.
 -- Peak starts at 0 and takes larger magnitudes; samples that are not a number are passed over there but spoil the mean." Definitions only.
 use mathlib.Core.Bool.{Bool, true, false, _&&_}
 use mathlib.Core.List.{List, map}
@@ -18,6 +18,7 @@ use Rattle.clipping_predictor_level_buffer.specs.declared.level.TwoLevel
 use Rattle.clipping_predictor_level_buffer.specs.declared.level.MeasuredTwo.{MeasuredTwo}
 use Rattle.clipping_predictor_level_buffer.specs.declared.level.MeasuredTwo.the-variants as MeasuredTwo
 use Rattle.clipping_predictor_level_buffer.specs.Statistics.{mean, largest}
+use Rattle.clipping_predictor_level_buffer.specs.Clipped.{clippedIn}
 
 -- "samples per channel not 1 to 480"
 abbrev pub maxSamplesPerChannel : ℕ
@@ -26,9 +27,9 @@ maxSamplesPerChannel = 480
 abbrev pub squareOf : Float → Float
 squareOf x = mul binary32 x x
 
--- "Each frame and channel yields a record of two floats, mean square and peak": the source's `Level`, by its `analyze`
+-- "Each frame and channel yields a record of two floats, mean square and peak": the source's `Level`, by its `analyze`; and "the number of clipped samples of that frame and channel"
 unfoldable pub frameRecord : List Float → Level
-frameRecord samples = record { average = mean (map squareOf samples); max = largest (map magnitudeOf samples) }
+frameRecord samples = record { average = mean (map squareOf samples); max = largest (map magnitudeOf samples); clipped = clippedIn samples }
 
 -- document 01's number and values for each case of the answer
 abbrev pub measuredSays : Measured → Said Level

@@ -1,5 +1,5 @@
 -- Document 01, "Ring and predictors": "Metrics over n items with a delay skip the newest `delay`, sum means newest first, divide by n, and take the largest peak from 0, passing over
--- not-a-number. There are none exactly if delay + n exceeds the stored count." WebRTC's `ComputePartialMetrics`. Definitions only.
+-- not-a-number. There are none exactly if delay + n exceeds the stored count." Document 02 (xi): "metrics give their total over the items". WebRTC's `ComputePartialMetrics`. Definitions only.
 use mathlib.Core.Bool.{Bool, true, false, _&&_}
 use mathlib.Core.List.{List, map}
 use mathlib.Core.Option.{Option, none, some}
@@ -15,6 +15,7 @@ use Rattle.clipping_predictor_level_buffer.specs.declared.level.Level.{L
 use Rattle.clipping_predictor_level_buffer.specs.declared.Metrics.{Metrics}
 use Rattle.clipping_predictor_level_buffer.specs.declared.Metrics.the-variants.{Refused, Missing, Found}
 use Rattle.clipping_predictor_level_buffer.specs.Statistics.{mean, largest}
+use Rattle.clipping_predictor_level_buffer.specs.Clipped.{total}
 
 -- a record's fields are taken here alone
 abbrev pub meanOf : Level → Float
@@ -23,9 +24,12 @@ meanOf l = l .average
 abbrev pub peakOf : Level → Float
 peakOf l = l .max
 
--- the metrics of the records that are left: their mean is that of the means, their peak the largest
+abbrev pub clippedOf : Level → ℕ
+clippedOf l = l .clipped
+
+-- the metrics of the records that are left: their mean is that of the means, their peak the largest, their clipped samples those of all
 unfoldable pub metricsOver : List Level → Level
-metricsOver items = record { average = mean (map meanOf items); max = largest (map peakOf items) }
+metricsOver items = record { average = mean (map meanOf items); max = largest (map peakOf items); clipped = total (map clippedOf items) }
 
 -- document 01's number and values for each case of the answer: metrics, none, or a refusal
 abbrev pub metricsSays : Metrics → Said (Option Level)

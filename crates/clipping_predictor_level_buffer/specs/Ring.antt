@@ -13,6 +13,7 @@ use Rattle.clipping_predictor_level_buffer.specs.declared.level.Level.{L
 use Rattle.clipping_predictor_level_buffer.specs.declared.ClippingPredictorLevelBuffer.{ClippingPredictorLevelBuffer}
 use Rattle.clipping_predictor_level_buffer.specs.declared.Stored.{Stored}
 use Rattle.clipping_predictor_level_buffer.specs.declared.Stored.the-variants.{Record, Missing}
+use Rattle.clipping_predictor_level_buffer.specs.Level.{maxSamplesPerChannel}
 
 -- "a fixed array of 64 records"
 abbrev pub maxCapacity : ℕ
@@ -22,14 +23,6 @@ maxCapacity = 64
 pub record Capacity (n : ℕ) : Type 0 where
   pub low : 1 ≤ n
   pub high : n ≤ maxCapacity
-
--- a ring in good order; `places` is true of every value of the type
-pub record Good (r : ClippingPredictorLevelBuffer) : Type 0 where
-  pub low : 1 ≤ r .capacity
-  pub high : r .capacity ≤ maxCapacity
-  pub held : r .size ≤ r .capacity
-  pub within : r .tail < r .capacity
-  pub places : length (r .data) ≡ maxCapacity
 
 -- ---- the stored records
 
@@ -51,7 +44,7 @@ after c t = afterIf (ltb (t + 1) c) t
 
 -- what an array of records has past its end: no stored record lies there
 abbrev pub noLevel : Level
-noLevel = record { average = nan; max = nan }
+noLevel = record { average = nan; max = nan; clipped = 0 }
 
 -- the record i places behind the place t
 unfoldable pub placed : List Level → ℕ → ℕ → ℕ → Level
@@ -71,6 +64,21 @@ unfoldable pub storedAt : List Level → ℕ → Stored
 storedAt [] i = Missing
 storedAt (l ∷ ls) zero = Record l
 storedAt (l ∷ ls) (suc i) = storedAt ls i
+
+-- ---- good order
+
+-- every record of the list has a count from 0 to 480; there is none past its end
+pub record Counted (records : List Level) : Type 0 where
+  pub each : (i : ℕ) → getD records i noLevel .clipped ≤ maxSamplesPerChannel
+
+-- a ring in good order; `places` is true of every value of the type
+pub record Good (r : ClippingPredictorLevelBuffer) : Type 0 where
+  pub low : 1 ≤ r .capacity
+  pub high : r .capacity ≤ maxCapacity
+  pub held : r .size ≤ r .capacity
+  pub within : r .tail < r .capacity
+  pub places : length (r .data) ≡ maxCapacity
+  pub counted : Counted (stored r)
 
 -- ---- what becomes of them
 

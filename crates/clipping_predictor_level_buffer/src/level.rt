@@ -1,19 +1,24 @@
-// The level of one channel's frame: its mean square and its peak. Ports what `analyze` of clipping_predictor.rs works out for each channel.
+// The level of one channel's frame: its mean square, its peak, and how many of its samples are clipped. Ports what `analyze` of clipping_predictor.rs works out for each channel; the
+// count, which the source has no place for, is taken in the same pass.
 ghost use mathlib.Core.Path.{_≡_};
 ghost use Prim.Native.Nat.{_+_, _≤_};
 ghost use lib.ListN.{length};
 ghost use Rattle.clipping_predictor_level_buffer.specs.Level.{maxSamplesPerChannel, frameRecord, measuredSays, measureOf, twoRecords, measuredTwoSays, measureTwoOf};
-ghost use Rattle.clipping_predictor_level_buffer.specs.Running.{levelFrom, withSample, largestPart, withFour, nothingTaken, fourTaken, Reached, Passed, BothReached};
+ghost use Rattle.clipping_predictor_level_buffer.specs.Clipped.{countOf};
+ghost use Rattle.clipping_predictor_level_buffer.specs.Running.{levelFrom, magnitudeFrom, withSample, largestPart, withFour, isBelow, countingFour, nothingTaken, fourTaken, Reached, Passed, BothReached};
 use numbers::refusal::Refusal;
+use numbers::truth::both;
 
 // The most samples that a frame has in one channel.
 pub const MAX_SAMPLES_PER_CHANNEL: usize = 480;
 
-// Frame-level statistics: the mean square and the largest magnitude.
+// Frame-level statistics: the mean square, the largest magnitude, and how many samples are clipped. Metrics over several frames have the same
+// shape: a mean, the largest, and a total.
 #[repr(C)]
 pub struct Level {
     pub average: f32,
     pub max: f32,
+    pub clipped: u32,
 }
 
 // A frame's level, or why there is none.
@@ -34,11 +39,12 @@ pub enum MeasuredTwo {
     Refused(Refusal),
 }
 
-// How far a measurement has come: the place of the next sample, and the sum of the squares and the peak up to there.
+// How far a measurement has come: the place of the next sample, and the sum of the squares, the peak and the clipped samples up to there.
 struct Running {
     at: usize,
     sum: f32,
     peak: f32,
+    clipped: u32,
 }
 
 // Two measurements.
@@ -55,17 +61,38 @@ struct Peaks {
     z: f32,
 }
 
-// A measurement by fours: the sum of the squares, and the peak in four parts.
+// A measurement by fours: the sum of the squares, the peak in four parts, and the clipped samples.
 struct Taking {
     sum: f32,
     peaks: Peaks,
+    clipped: u32,
 }
 
-// A peak with one sample more. A not-a-number counts as 0, so the larger is a number's, for which the machine has one instruction.
+// 1 for a sample at the end of the 16-bit scale or past it, else 0. A not-a-number is neither.
+pub fn count_of(sample: f32) -> u32
+    ensures { λ r. ⌜ r ≡ countOf sample ⌝ }
+{
+    if sample >= 32767.0 {
+        return 1;
+    }
+    if sample <= -32768.0 {
+        return 1;
+    }
+    0
+}
+
+// A sample without its sign, and 0 for a not-a-number.
+fn magnitude(sample: f32) -> f32
+    ensures { λ r. ⌜ r ≡ magnitudeFrom sample ⌝ }
+{
+    f32::from_bits(levels::parts::magnitude_bits(sample))
+}
+
+// A peak with one sample more. Since a not-a-number counts as 0, the larger is a number's, for which the machine has one instruction.
 fn with_sample(peak: f32, sample: f32) -> f32
     ensures { λ r. ⌜ r ≡ withSample peak sample ⌝ }
 {
-    crate::larger(peak, f32::from_bits(levels::parts::magnitude_bits(sample)))
+    crate::larger(peak, magnitude(sample))
 }
 
 impl Peaks {
@@ -87,6 +114,26 @@ impl Peaks {
     }
 }
 
+// Whether a sample surely is not clipped, by its magnitude.
+fn is_below(sample: f32) -> bool
+    ensures { λ r. ⌜ r ≡ isBelow sample ⌝ }
+{
+    magnitude(sample) < 32767.0
+}
+
+// A count with four samples more. Nearly always none of them is clipped, which their magnitudes, there for the peak, tell all at once.
+fn counted(clipped: u32, w: f32, x: f32, y: f32, z: f32) -> u32
+    requires { ⌜ clipped ≤ maxSamplesPerChannel ⌝ }
+    ensures { λ r. ⌜ r ≡ countingFour clipped w x y z ⌝ }
+{
+    let first = both(is_below(w), is_below(x));
+    let second = both(is_below(y), is_below(z));
+    if both(first, second) {
+        return clipped;
+    }
+    clipped + count_of(w) + count_of(x) + count_of(y) + count_of(z)
+}
+
 // Nothing is measured yet.
 fn nothing_taken() -> Taking
     ensures { λ r. ⌜ r ≡ nothingTaken ⌝ }
@@ -99,13 +146,14 @@ fn nothing_taken() -> Taking
             y: 0.0,
             z: 0.0,
         },
+        clipped: 0,
     }
 }
 
 // Four samples more. The sum is one chain of rounded additions, and nothing beside it may take longer: so the peak is kept in four
 // parts, which the machine compares at once.
 fn taken(t: Taking, samples: &[f32], at: usize) -> Taking
-    requires { ⌜ at + 4 ≤ length (now samples) ⌝ }
+    requires { ⌜ (at + 4 ≤ length (now samples)) × (t .clipped ≤ maxSamplesPerChannel) ⌝ }
     ensures { λ r. ⌜ r ≡ fourTaken t (now (samples .entry)) at ⌝ }
 {
     let w = samples[at];
@@ -116,10 +164,12 @@ fn taken(t: Taking, samples: &[f32], at: usize) -> Taking
     Taking {
         sum: t.sum + w * w + x * x + y * y + z * z,
         peaks: peaks.with(w, x, y, z),
+        clipped: counted(t.clipped, w, x, y, z),
     }
 }
 
 fn by_fours(samples: &[f32]) -> Running
+    requires { ⌜ length (now samples) ≤ maxSamplesPerChannel ⌝ }
     ensures { λ r. ⌜ Reached (now (samples .entry)) r ⌝ }
 {
     let mut t = nothing_taken();
@@ -133,12 +183,13 @@ fn by_fours(samples: &[f32]) -> Running
         at,
         sum: t.sum,
         peak: peaks.largest(),
+        clipped: t.clipped,
     }
 }
 
 // Two channels at once: neither chain of additions waits for the other.
 fn both_by_fours(first: &[f32], second: &[f32]) -> Both
-    requires { ⌜ length (now first) ≡ length (now second) ⌝ }
+    requires { ⌜ (length (now first) ≡ length (now second)) × (length (now first) ≤ maxSamplesPerChannel) ⌝ }
     ensures { λ r. ⌜ BothReached (now (first .entry)) (now (second .entry)) r ⌝ }
 {
     let mut s = nothing_taken();
@@ -156,30 +207,39 @@ fn both_by_fours(first: &[f32], second: &[f32]) -> Both
             at,
             sum: s.sum,
             peak: p.largest(),
+            clipped: s.clipped,
         },
         second: Running {
             at,
             sum: t.sum,
             peak: q.largest(),
+            clipped: t.clipped,
         },
     }
 }
 
 // The samples that are left, one a turn.
 fn one_by_one(samples: &[f32], from: Running) -> Running
-    requires { ⌜ Reached (now samples) from ⌝ }
+    requires { ⌜ Reached (now samples) from × (length (now samples) ≤ maxSamplesPerChannel) ⌝ }
     ensures { λ r. ⌜ Passed (now (samples .entry)) r ⌝ }
 {
     let mut at = from.at;
     let mut sum = from.sum;
     let mut peak = from.peak;
+    let mut clipped = from.clipped;
     while at < samples.len() {
         let x = samples[at];
         sum = sum + x * x;
         peak = with_sample(peak, x);
+        clipped += count_of(x);
         at += 1;
     }
-    Running { at, sum, peak }
+    Running {
+        at,
+        sum,
+        peak,
+        clipped,
+    }
 }
 
 // A level, from a measurement and the count of its samples.
@@ -189,6 +249,7 @@ fn level_from(all: Running, count: u16) -> Level
     Level {
         average: all.sum / (count as f32),
         max: all.peak,
+        clipped: all.clipped,
     }
 }
 

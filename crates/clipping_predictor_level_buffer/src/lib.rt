@@ -4,11 +4,15 @@ ghost use mathlib.Core.Path.{_≡_};
 ghost use Prim.Native.Nat.{_+_, _≤_, _<_, min};
 ghost use lib.IntN.{pos};
 ghost use lib.ListN.{length, take, drop};
+ghost use Rattle.numbers.specs.Said.{outcomeSays};
 ghost use Rattle.clipping_predictor_level_buffer.specs.Statistics.{larger};
+ghost use Rattle.clipping_predictor_level_buffer.specs.Level.{maxSamplesPerChannel};
 ghost use Rattle.clipping_predictor_level_buffer.specs.Ring.{maxCapacity, Capacity, Good, behind, after, stored, storedSays, storedAt, Emptied, Pushed};
+ghost use Rattle.clipping_predictor_level_buffer.specs.Pushing.{offered, pushingOf, PushedIf, PushedOf};
 ghost use Rattle.clipping_predictor_level_buffer.specs.Making.{MadeOf};
 ghost use Rattle.clipping_predictor_level_buffer.specs.Metrics.{metricsOver, metricsSays, partialMetrics, computePartialMetrics};
 use crate::level::Level;
+use crate::level::MAX_SAMPLES_PER_CHANNEL;
 use numbers::natural::Natural;
 use numbers::refusal::Outcome;
 use numbers::refusal::Refusal;
@@ -31,6 +35,12 @@ pub struct ClippingPredictorLevelBuffer {
 pub struct Made {
     pub answer: Outcome,
     pub ring: ClippingPredictorLevelBuffer,
+}
+
+// What a push answers. A refusal has the very ring beside it.
+pub struct AfterPush {
+    pub ring: ClippingPredictorLevelBuffer,
+    pub answer: Outcome,
 }
 
 // Metrics over some of the records, or why there are none.
@@ -89,6 +99,7 @@ impl ClippingPredictorLevelBuffer {
         let zero = Level {
             average: 0.0,
             max: 0.0,
+            clipped: 0,
         };
         ClippingPredictorLevelBuffer {
             data: [zero; MAX_CAPACITY],
@@ -144,8 +155,9 @@ impl ClippingPredictorLevelBuffer {
         self.capacity as i32
     }
 
-    pub fn push(self, level: Level) -> ClippingPredictorLevelBuffer
-        requires { ⌜ Good self ⌝ }
+    // A record whose count is in range.
+    fn pushed(self, level: Level) -> ClippingPredictorLevelBuffer
+        requires { ⌜ Good self × (level .clipped ≤ maxSamplesPerChannel) ⌝ }
         ensures { λ r. ⌜ Pushed self level r ⌝ }
     {
         let at = next(self.capacity, self.tail);
@@ -155,6 +167,45 @@ impl ClippingPredictorLevelBuffer {
         r.tail = at;
         r.size = size;
         r
+    }
+
+    // `push` of a level, whose count is unsigned.
+    pub fn push_level(self, level: Level) -> AfterPush
+        requires { ⌜ Good self ⌝ }
+        ensures { λ r. ⌜ PushedOf (pos (level .clipped)) self level r ⌝ }
+    {
+        if (MAX_SAMPLES_PER_CHANNEL as u32) < level.clipped {
+            return AfterPush {
+                ring: self,
+                answer: Outcome::Refused(Refusal::RingRange),
+            };
+        }
+        AfterPush {
+            ring: self.pushed(level),
+            answer: Outcome::Accepted,
+        }
+    }
+
+    pub fn push(self, average: f32, max: f32, clipped: i32) -> AfterPush
+        requires { ⌜ Good self ⌝ }
+        ensures { λ r. ⌜ PushedOf clipped self (offered average max clipped) r ⌝ }
+    {
+        let counted = numbers::natural::within(0, MAX_SAMPLES_PER_CHANNEL, clipped);
+        let Natural::Number(n) = counted else {
+            return AfterPush {
+                ring: self,
+                answer: Outcome::Refused(Refusal::RingRange),
+            };
+        };
+        let level = Level {
+            average,
+            max,
+            clipped: n as u32,
+        };
+        AfterPush {
+            ring: self.pushed(level),
+            answer: Outcome::Accepted,
+        }
     }
 
     // The i-th record, counted from the newest as 0.
@@ -176,16 +227,19 @@ impl ClippingPredictorLevelBuffer {
     {
         let mut sum = 0.0f32;
         let mut max = 0.0f32;
+        let mut clipped: u32 = 0;
         for i in 0..items {
             let at = place(self.capacity, self.tail, delay + i);
             let level = self.data[at];
             sum = sum + level.average;
             max = larger(max, level.max);
+            clipped += level.clipped;
         }
         let count = items as u16;
         Level {
             average: sum / (count as f32),
             max,
+            clipped,
         }
     }
 
@@ -225,10 +279,41 @@ impl ClippingPredictorLevelBuffer {
     }
 }
 
-// A push through a mutable reference: the ring is taken out, pushed to, and put back.
-pub fn push_into(ring: &mut ClippingPredictorLevelBuffer, level: Level)
-    requires { ⌜ Good (now ring) ⌝ }
-    ensures { λ _. ⌜ Pushed (now (ring .entry)) level (now (ring .exit)) ⌝ }
+// What a push with this count answers.
+fn push_answer(clipped: i32) -> Outcome
+    ensures { λ r. ⌜ outcomeSays r ≡ outcomeSays (pushingOf clipped) ⌝ }
 {
-    *ring = ClippingPredictorLevelBuffer::push(*ring, level);
+    let counted = numbers::natural::within(0, MAX_SAMPLES_PER_CHANNEL, clipped);
+    match counted {
+        Natural::Number(_) => Outcome::Accepted,
+        Natural::Outside => Outcome::Refused(Refusal::RingRange),
+    }
+}
+
+// The ring that it leaves.
+fn ring_after(
+    ring: ClippingPredictorLevelBuffer,
+    average: f32,
+    max: f32,
+    clipped: i32,
+) -> ClippingPredictorLevelBuffer
+    requires { ⌜ Good ring ⌝ }
+    ensures { λ r. ⌜ PushedIf clipped ring (offered average max clipped) r ⌝ }
+{
+    let after = ring.push(average, max, clipped);
+    after.ring
+}
+
+// A push through a mutable reference: the ring is taken out, pushed to, and put back.
+pub fn push_into(
+    ring: &mut ClippingPredictorLevelBuffer,
+    average: f32,
+    max: f32,
+    clipped: i32,
+) -> Outcome
+    requires { ⌜ Good (now ring) ⌝ }
+    ensures { λ r. ⌜ PushedOf clipped (now (ring .entry)) (offered average max clipped) (record { ring = now (ring .exit); answer = r }) ⌝ }
+{
+    *ring = ring_after(*ring, average, max, clipped);
+    push_answer(clipped)
 }

@@ -1,6 +1,3 @@
-pub mod Clipped
-pub mod NotClipped
-pub mod KnownLevels
 pub mod ChannelLists
 pub mod Volumes
 pub mod Built

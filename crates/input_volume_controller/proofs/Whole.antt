@@ -113,13 +113,20 @@ getD-past f (suc n) zero d h = absurd (not-suc-le-zero h)
 getD-past f (suc n) (suc i) d h = getD-past (λ j. f (suc j)) n i d (le-of-suc-le-suc h)
 
 -- no record lies in the ring of a channel that is not there
+pub records-none : (p : ClippingPredictor) (channel : ℕ) → p .channels ≤ channel → [] ≡ getD (PredictorOf.viewOf p .rings) channel []
+unfolding PredictorOf.viewOf
+records-none p channel h = sym (getD-past (λ c. stored (ringAt p c)) (p .channels) channel [] h)
+
+pub records-some : (p : ClippingPredictor) (channel : ℕ) → channel < p .channels → stored (ringAt p channel) ≡ getD (PredictorOf.viewOf p .rings) channel []
+unfolding PredictorOf.viewOf
+records-some p channel h = sym (getD-listed (λ c. stored (ringAt p c)) (p .channels) channel [] h)
+
 pub stored-none : (p : ClippingPredictor) (channel i : ℕ) → p .channels ≤ channel → Missing ≡ storedAt (getD (PredictorOf.viewOf p .rings) channel []) i
-unfolding PredictorOf.viewOf storedAt
-stored-none p channel i h = ap (λ (l : List Level). storedAt l i) (sym (getD-past (λ c. stored (ringAt p c)) (p .channels) channel [] h))
+unfolding storedAt
+stored-none p channel i h = ap (λ (l : List Level). storedAt l i) (records-none p channel h)
 
 pub stored-some : (p : ClippingPredictor) (channel i : ℕ) → channel < p .channels → storedAt (stored (ringAt p channel)) i ≡ storedAt (getD (PredictorOf.viewOf p .rings) channel []) i
-unfolding PredictorOf.viewOf
-stored-some p channel i h = ap (λ (l : List Level). storedAt l i) (sym (getD-listed (λ c. stored (ringAt p c)) (p .channels) channel [] h))
+stored-some p channel i h = ap (λ (l : List Level). storedAt l i) (records-some p channel h)
 
 -- ---- an accepted frame
 

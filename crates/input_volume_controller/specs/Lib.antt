@@ -1,5 +1,4 @@
 pub mod ClippedRatio
-pub mod Known
 pub mod Channels
 pub mod Control
 pub mod ControlCalls
@@ -10,3 +9,4 @@ pub mod Frame
 pub mod Recommendation
 pub mod Calls
 pub mod Plain
+pub mod ChannelMetrics

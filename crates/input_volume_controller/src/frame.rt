@@ -5,11 +5,11 @@ ghost use mathlib.Core.Bool.{true};
 ghost use Prim.Native.Nat.{_≤_};
 ghost use lib.Dec.{ltb};
 ghost use lib.Ieee.{lt};
-ghost use Rattle.clipping_predictor.specs.Predictor.{maxChannels, frameFits};
+ghost use Rattle.clipping_predictor_level_buffer.specs.Level.{maxSamplesPerChannel};
+ghost use Rattle.clipping_predictor.specs.Predictor.{frameFits};
 ghost use Rattle.clipping_predictor.specs.Predictor.{viewOf as predictorOf};
 ghost use Rattle.clipping_predictor.specs.AllRings.{predictedFor};
-ghost use Rattle.input_volume_controller.specs.ClippedRatio.{clippedRatio};
-ghost use Rattle.input_volume_controller.specs.Known.{PeaksKnown, anyLevels, knownLevels};
+ghost use Rattle.input_volume_controller.specs.ClippedRatio.{ratioOf};
 ghost use Rattle.input_volume_controller.specs.Controller.{together, viewOf, Good};
 ghost use Rattle.input_volume_controller.specs.Control.{controlOf, Good as GoodControl};
 ghost use Rattle.input_volume_controller.specs.Differ.{differ};
@@ -25,11 +25,7 @@ use crate::volume_control::one_frame_more;
 use clipping_predictor::Asked;
 use clipping_predictor::ClippingPredictor;
 use clipping_predictor::Heard;
-use clipping_predictor::MAX_CHANNELS;
 use clipping_predictor::Question;
-use clipping_predictor::measuring::Levels;
-use clipping_predictor::measuring::measure_channels;
-use clipping_predictor_level_buffer::level::Level;
 use mono_input_volume_controller::mono::MAX_INPUT_VOLUME;
 use numbers::truth::either;
 
@@ -97,15 +93,9 @@ fn tested(control: VolumeControl, heard: Heard, clipped: bool) -> Analyzed
 }
 
 // A frame that is in the rings, with what they answered: within the wait it only counts.
-fn entered(
-    control: VolumeControl,
-    heard: Heard,
-    samples: usize,
-    frame: &[f32],
-    levels: Levels,
-) -> Analyzed
-    requires { ⌜ Good (together control (heard .predictor)) × (frameFits (control .channels .count) samples (now frame) ≡ true) × PeaksKnown (control .channels .count) samples (now frame) (levels .items) × (heard .estimated ≡ predictedFor (questionOf (controlOf control)) (predictorOf (heard .predictor))) ⌝ }
-    ensures { λ r. ⌜ Framed (unlessWaiting (ltb (control .since) (control .settings .«clipped_wait»)) (lt (control .settings .«clipped_ratio») (clippedRatio (control .channels .count) samples (now (frame .entry)))) (viewOf (together control (heard .predictor)))) r ⌝ }
+fn entered(control: VolumeControl, heard: Heard, samples: usize) -> Analyzed
+    requires { ⌜ Good (together control (heard .predictor)) × (heard .clipped ≤ samples) × (samples ≤ maxSamplesPerChannel) × (heard .estimated ≡ predictedFor (questionOf (controlOf control)) (predictorOf (heard .predictor))) ⌝ }
+    ensures { λ r. ⌜ Framed (unlessWaiting (ltb (control .since) (control .settings .«clipped_wait»)) (lt (control .settings .«clipped_ratio») (ratioOf (heard .clipped) samples)) (viewOf (together control (heard .predictor)))) r ⌝ }
 {
     if control.since < control.settings.clipped_wait {
         let predictor = heard.predictor;
@@ -117,33 +107,9 @@ fn entered(
             answer: Analysis::Accepted(false),
         };
     }
-    let ratio = compute_clipped_ratio(control.channels.count, samples, frame, levels);
+    let ratio = compute_clipped_ratio(heard.clipped, samples);
     let threshold = control.settings.clipped_ratio;
     tested(control, heard, ratio > threshold)
-}
-
-// Levels that say nothing: any sample of any channel may be clipped.
-fn any_levels() -> Levels
-    ensures { λ r. ⌜ r .items ≡ anyLevels ⌝ }
-{
-    let loud = Level {
-        average: 0.0,
-        max: f32::from_bits(0x7f80_0000),
-    };
-    let items = [loud; MAX_CHANNELS];
-    Levels { items }
-}
-
-// The levels of a frame that fits. With the predictor off they are not asked for, and so not measured.
-fn known_levels(on: bool, channels: usize, samples: usize, frame: &[f32]) -> Levels
-    requires { ⌜ (1 ≤ channels) × (channels ≤ maxChannels) × (frameFits channels samples (now frame) ≡ true) ⌝ }
-    ensures { λ r. ⌜ r .items ≡ knownLevels on channels samples (now (frame .entry)) ⌝ }
-{
-    if on {
-        let measured = measure_channels(channels, samples, frame);
-        return measured.levels;
-    }
-    any_levels()
 }
 
 // With capture on a frame enters the rings; with capture off it only sets the volume.
@@ -157,14 +123,8 @@ pub fn accepted(
     ensures { λ r. ⌜ Framed (ifUsed (control .used) samples (now (frame .entry)) (viewOf (together control predictor))) r ⌝ }
 {
     if control.used {
-        let levels = known_levels(
-            predictor.settings.enabled,
-            control.channels.count,
-            samples,
-            frame,
-        );
-        let heard = predictor.heard_levels(levels, question(control));
-        return entered(control, heard, samples, frame, levels);
+        let heard = predictor.heard(samples, frame, question(control));
+        return entered(control, heard, samples);
     }
     Analyzed {
         controller: InputVolumeController { control, predictor },

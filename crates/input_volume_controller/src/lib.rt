@@ -5,9 +5,11 @@ ghost use mathlib.Core.List.{[]};
 ghost use lib.IntN.{pos};
 ghost use lib.ListN.{getD};
 ghost use Rattle.clipping_predictor_level_buffer.specs.Ring.{storedSays, storedAt};
+ghost use Rattle.clipping_predictor_level_buffer.specs.Metrics.{metricsSays};
 ghost use Rattle.input_volume_controller.specs.Controller.{viewOf, Good, CreatedWith, CreatedOf};
 ghost use Rattle.input_volume_controller.specs.Reply.{done, recommendationSays};
 ghost use Rattle.input_volume_controller.specs.Calls.{recommendation, initialise, captureSwitch, Does, AnalyzedOf};
+ghost use Rattle.input_volume_controller.specs.ChannelMetrics.{channelMetrics};
 pub use crate::making::default_predictor_config;
 pub use crate::volume_control::VolumeControl;
 use crate::volume_control::fresh_control;
@@ -15,6 +17,7 @@ use clipping_predictor::ClippingPredictor;
 use clipping_predictor::create_clipping_predictor;
 use clipping_predictor::frame_fits;
 use clipping_predictor::settings::ClippingPredictorConfig;
+use clipping_predictor_level_buffer::Metrics;
 use clipping_predictor_level_buffer::Stored;
 use mono_input_volume_controller::config::Config;
 use mono_input_volume_controller::speech_level::SpeechLevel;
@@ -197,5 +200,19 @@ impl InputVolumeController {
         }
         let ring = predictor.rings[channel];
         ring.stored_at(i)
+    }
+
+    // The metrics over the records of a channel's ring; a channel that is not there stores nothing.
+    pub fn compute_partial_metrics(self, channel: usize, delay: i32, num_items: i32) -> Metrics
+        requires { ⌜ Good self ⌝ }
+        ensures { λ r. ⌜ metricsSays r ≡ metricsSays (channelMetrics (viewOf self .predictor) channel delay «num_items») ⌝ }
+    {
+        let predictor = self.predictor;
+        if predictor.channels <= channel {
+            let first = predictor.rings[0];
+            return first.reset().compute_partial_metrics(delay, num_items);
+        }
+        let ring = predictor.rings[channel];
+        ring.compute_partial_metrics(delay, num_items)
     }
 }

@@ -5,8 +5,8 @@
 //     w bits                            rounding to whole
 //     a bits                            the magnitude
 //     d bits   h bits   L bits          d, h, and d against full scale, in thousandths of a dB
-//     G capacity   g mean peak   z      a ring: made, pushed, emptied
-//     m delay items                     its metrics
+//     G capacity   g mean peak count   z   a ring: made, pushed, emptied
+//     m delay items                     its metrics: mean, peak, and the total of the counts
 //     P channels on mode window reference delay threshold margin   a predictor: made
 //     F floats   X                      a frame of all channels; emptied
 //     E channel level step least most   an estimate, with an `n` behind it where it is near
@@ -17,7 +17,8 @@
 //     V                                 from here on, all of the controller's state after each of its calls
 //     # name                            what the line before shows; no answer
 //
-// A ring, a predictor and a controller are kept from line to line, each by itself. Every line is handed to all of them, and one answers it.
+// A ring, a predictor and a controller are kept from line to line, each by itself. Every line is handed to all of them, and one answers it. Where a
+// record is shown it is `mean:peak:count`, the count of clipped samples in decimal.
 mod controller;
 mod input;
 mod predictor;

@@ -72,17 +72,19 @@ pub fn accepted(answer: Outcome) -> bool {
     }
 }
 
-fn pair(level: Level) {
+fn triple(level: Level) {
     float(level.average);
     text(b" ");
     float(level.max);
+    text(b" ");
+    count(level.clipped as u64);
 }
 
 pub fn metrics(metrics: Metrics) {
     match metrics {
         Metrics::Refused(cause) => refusal(cause),
         Metrics::Missing => none(),
-        Metrics::Found(level) => pair(level),
+        Metrics::Found(level) => triple(level),
     }
 }
 

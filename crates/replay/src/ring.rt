@@ -3,8 +3,6 @@ ghost use Rattle.clipping_predictor_level_buffer.specs.Ring.{Good};
 use crate::print;
 use crate::text;
 use clipping_predictor_level_buffer::ClippingPredictorLevelBuffer;
-use clipping_predictor_level_buffer::Stored;
-use clipping_predictor_level_buffer::level::Level;
 
 // A ring of capacity 1.
 pub fn fresh() -> ClippingPredictorLevelBuffer
@@ -50,11 +48,18 @@ fn measured(
     ring
 }
 
-fn level(s: &[u8]) -> Level {
-    Level {
-        average: text::float(s, 0),
-        max: text::float(s, 1),
+// A refused push leaves the ring.
+fn pushed(ring: ClippingPredictorLevelBuffer, s: &[u8]) -> ClippingPredictorLevelBuffer
+    requires { ⌜ Good ring ⌝ }
+    ensures { λ r. ⌜ Good r ⌝ }
+{
+    let after = ring.push(text::float(s, 0), text::float(s, 1), text::number(s, 2));
+    let answer = after.answer;
+    let next = after.ring;
+    if !print::accepted(answer) {
+        return next;
     }
+    counted(next)
 }
 
 // The answer to a line, by its first letter.
@@ -68,7 +73,7 @@ pub fn answer(
 {
     match letter {
         b'G' => made(ring, text::number(s, 0)),
-        b'g' => counted(ring.push(level(s))),
+        b'g' => pushed(ring, s),
         b'z' => counted(ring.reset()),
         b'm' => measured(ring, text::number(s, 0), text::number(s, 1)),
         _ => ring,

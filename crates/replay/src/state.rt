@@ -16,11 +16,13 @@ use numbers::flag::flag_of;
 
 // ---- rings
 
+// Mean square, peak and clipped samples.
 fn print_level(level: Level) {
     print::text(b":");
     print::float(level.average);
     print::text(b":");
     print::float(level.max);
+    print_named(b":", level.clipped);
 }
 
 fn print_record(record: Stored) {

@@ -1,97 +1,81 @@
--- `ClippingPredictor::heard` meets its contract: a frame that does not fit hands the predictor back, and so does one that is off. Assumes nothing.
-use mathlib.Core.Path.{refl, sym, ap, _∙_}
-use mathlib.Core.Bool.{Bool}
+-- `ClippingPredictor::heard` meets its contract: by whether the predictor is on and the frame fits. Assumes nothing.
+use mathlib.Core.Path.{_≡_, refl, sym, ap, _∙_}
+use mathlib.Core.Bool.{Bool, true, false, _&&_}
 use mathlib.Core.List.{List}
 use Prim.Native.Nat.{ℕ}
 use denote.Ref.{now}
-use native.Mathlib.Omega.{arith}
-use borrow.Author.Tests.{not-true, not-false}
+use lib.Ieee.{Float}
 use Rattle.numbers.proofs.Signs.{clash}
 use Rattle.clipping_predictor_level_buffer.specs.declared.level.Level.{Level}
 use Rattle.clipping_predictor_level_buffer.specs.Level.{frameRecord}
+use Rattle.clipping_predictor.specs.declared.modes.Question.{Question}
+use Rattle.clipping_predictor.specs.declared.measuring.Brought.{Brought}
+use Rattle.clipping_predictor.specs.declared.ClippingPredictor.{ClippingPredictor}
+use Rattle.clipping_predictor.specs.declared.Heard.{Heard}
+use Rattle.clipping_predictor.specs.Predictor.{viewOf, Good, partOf, frameFits, levelsIn, enteredIf}
+use Rattle.clipping_predictor.specs.AllRings.{predictedIf, withLevelsIf, BroughtBy, HeardLevelsOf, HeardOf}
 use Rattle.clipping_predictor.proofs.Frames.{off-same, entered-frame}
-use Rattle.clipping_predictor.proofs.FrameLevels.{array-entered, fitting-levels}
+use Rattle.clipping_predictor.proofs.FrameLevels.{array-entered}
 use Rattle.clipping_predictor.proofs.Joins.{off-none}
-use Rattle.clipping_predictor.specs.Predictor.{partOf, enteredIf, viewOf, levelsIn, withLevels}
-use Rattle.clipping_predictor.specs.AllRings.{predictedIf}
+use Rattle.clipping_predictor.proofs.Brought.{off-or-not}
 use borrow.Author.Needs.{needs}
 use Rattle.clipping_predictor.proofs.ClippingPredictor.heard.Statement.{statement}
 use Rattle.clipping_predictor.proofs.ClippingPredictor.heard.Tie as tie
 
-cast-frame-fits : tie.Need-cast-frame-fits
-cast-frame-fits c = omega (arith, c .before .before .pre .channels-high)
+module _ (p : ClippingPredictor) (samples : ℕ) (frame : List Float) (question : Question) (good : Good p) where
+  abbrev fits : Bool
+  fits = frameFits (p .channels) samples frame
 
-frame-fits-requires : tie.Need-frame-fits-requires
-frame-fits-requires c κs = search needs
+  module _ (b : Brought) (r : Heard) (brought : BroughtBy (p .settings .enabled) (p .channels) samples frame question b) (h : HeardLevelsOf p b question r) where
+    hears : (on fit : Bool) → p .settings .enabled ≡ on → fits ≡ fit → b .hears ≡ (on && fit)
+    hears on fit o f = brought .hears-is ∙ (λ i. o i && f i)
 
-no-estimate-requires : tie.Need-no-estimate-requires
-no-estimate-requires c κs = search needs
+    -- nothing is heard, which is what the frame is to bring then
+    unheard : (fit : Bool) → fits ≡ fit → b .hears ≡ false → viewOf p ≡ enteredIf fit samples frame (viewOf p) → predictedIf false question (viewOf p) ≡ predictedIf fit question (viewOf p) → HeardOf p samples frame question r
+    unheard fit f not view answer =
+        let very = h .same not in
+        record {
+          entered = record { good = h .good; view = ap viewOf very ∙ view ∙ sym (ap (λ (x : Bool). enteredIf x samples frame (viewOf p)) f); same = λ _. very };
+          answer =
+              h .answer ∙ (λ i. predictedIf (not i) question (viewOf (very i))) ∙ answer ∙ sym (ap (λ (x : Bool). predictedIf x question (viewOf p)) f)
+              ∙ sym (ap (λ (q : ClippingPredictor). predictedIf fits question (viewOf q)) very);
+          clipped-is = h .clipped-is ∙ brought .clipped-is;
+        }
+
+    by-tests : (on fit : Bool) → p .settings .enabled ≡ on → fits ≡ fit → HeardOf p samples frame question r
+    unfolding viewOf
+    by-tests on false o f = unheard false f (hears on false o f ∙ off-or-not on) refl refl
+    by-tests false true o f =
+        let records : ℕ → Level = λ c. frameRecord (partOf samples frame c) in
+        unheard true f (hears false true o f) (off-same p records good o ∙ entered-frame p records samples frame (λ c k. refl)) (off-none question (viewOf p) (good .settings) o)
+    by-tests true true o f =
+        let all = hears true true o f in
+        record {
+          entered = record {
+            good = h .good;
+            view = h .view ∙ (λ i. withLevelsIf (all i) (levelsIn (brought .levels-are all i) (p .channels)) (viewOf p)) ∙ array-entered p samples frame good ∙ sym (ap (λ (x : Bool). enteredIf x samples frame (viewOf p)) f);
+            same = λ e. clash (sym f ∙ e);
+          };
+          answer = h .answer ∙ ap (λ (x : Bool). predictedIf x question (viewOf (r .predictor))) (all ∙ sym f);
+          clipped-is = h .clipped-is ∙ brought .clipped-is;
+        }
+
+-- levels that are heard come to a predictor that is on
+left : (x y : Bool) → (x && y) ≡ true → x ≡ true
+left true y k = refl
+left false y k = k
+
+bring-requires : tie.Need-bring-requires
+bring-requires c κs = c .before .pre .channels-high
+
+heard-levels-requires : tie.Need-heard-levels-requires
+heard-levels-requires c κs = let b = c .bring .ensures in (c .before .before .pre, record { on = λ e. left _ _ (sym (b .hears-is) ∙ e); counted = b .counted })
 
 returns : tie.Need-returns
 returns c =
-    let f = c .before .before in
-    let s = f .before .before .before in
-    let e = sym (f .frame-fits .ensures) ∙ not-true _ (c .before .if1 .taken) in
-    record {
-      entered = record { good = s .pre; view = sym (ap (λ (b : Bool). enteredIf b (s .args .samples-per-channel) (now (s .args .frame)) (viewOf (s .args .self))) e); same = λ _. refl };
-      answer = c .no-estimate .ensures ∙ sym (ap (λ (b : Bool). predictedIf b (s .args .question) (viewOf (s .args .self))) e);
-    }
-
-no-estimate-requires-2 : tie.Need-no-estimate-requires-2
-no-estimate-requires-2 c κs = search needs
-
-returns-2 : tie.Need-returns-2
-unfolding viewOf
-returns-2 c =
-    let f = c .before .before .before .before in
-    let s = f .before .before .before in
-    let e = sym (f .frame-fits .ensures) ∙ not-false _ (c .before .before .before .if1 .left) in
-    let off = not-true _ (c .before .if2 .taken) in
-    let records : ℕ → Level = λ i. frameRecord (partOf (s .args .samples-per-channel) (now (s .args .frame)) i) in
-    record {
-      entered = record {
-        good = s .pre;
-        view = off-same (s .args .self) records (s .pre) off ∙ entered-frame (s .args .self) records (s .args .samples-per-channel) (now (s .args .frame)) (λ i h. refl)
-            ∙ sym (ap (λ (b : Bool). enteredIf b (s .args .samples-per-channel) (now (s .args .frame)) (viewOf (s .args .self))) e);
-        same = λ h. clash (sym e ∙ h);
-      };
-      answer = c .no-estimate2 .ensures ∙ off-none (s .args .question) (viewOf (s .args .self)) (s .pre .settings) off ∙ sym (ap (λ (b : Bool). predictedIf b (s .args .question) (viewOf (s .args .self))) e);
-    }
-
-measure-channels-requires : tie.Need-measure-channels-requires
-measure-channels-requires c κs = search needs
-
-heard-levels-requires : tie.Need-heard-levels-requires
-heard-levels-requires c κs = search needs
-
-returns-3 : tie.Need-returns-3
-returns-3 c =
-    let m = c .before .before in
-    let f = c .before .before .before .before .before .before in
-    let s = f .before .before .before in
-    let e = sym (f .frame-fits .ensures) ∙ not-false _ (c .before .before .before .before .before .if1 .left) in
-    let r = c .heard-levels .ensures in
-    let self = s .args .self in
-    record {
-      entered = record {
-        good = r .entered .good;
-        view = r .entered .view ∙ ap (λ (items : List Level). withLevels (levelsIn items (self .channels)) (viewOf self)) (fitting-levels self _ _ _ (s .pre) e (m .measure-channels .ensures)) ∙ array-entered self _ _ (s .pre)
-            ∙ sym (ap (λ (b : Bool). enteredIf b (s .args .samples-per-channel) (now (s .args .frame)) (viewOf self)) e);
-        same = λ h. clash (sym e ∙ h);
-      };
-      answer = r .answer ∙ sym (ap (λ (b : Bool). predictedIf b (s .args .question) (viewOf (c .heard-levels .result .predictor))) e);
-    }
+    let b = c .before in
+    let s = b .before .before in
+    by-tests (s .args .self) (s .args .samples-per-channel) (now (s .args .frame)) (s .args .question) (s .pre) (b .bring .result) _ (b .bring .ensures) (c .heard-levels .ensures) _ _ refl refl
 
 pub heard-spec : {M : Type 1} → statement M
-heard-spec =
-    tie.close
-    (tie.spec
-    cast-frame-fits
-    frame-fits-requires
-    no-estimate-requires
-    returns
-    no-estimate-requires-2
-    returns-2
-    measure-channels-requires
-    heard-levels-requires
-    returns-3)
+heard-spec = tie.close (tie.spec bring-requires heard-levels-requires returns)

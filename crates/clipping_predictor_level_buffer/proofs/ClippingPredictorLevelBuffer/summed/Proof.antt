@@ -5,17 +5,17 @@ use native.Mathlib.Omega.{arith}
 use borrow.Author.Needs.{needs}
 use lib.Ieee.{ofBits}
 use lib.ListN.{getD, drop, length-drop}
-use Rattle.clipping_predictor_level_buffer.specs.Ring.{noLevel, stored}
+use Rattle.clipping_predictor_level_buffer.specs.Ring.{noLevel, stored, Counted}
 use Rattle.clipping_predictor_level_buffer.proofs.Records.{length-stored, later-is}
-use Rattle.clipping_predictor_level_buffer.proofs.Sums.{Summed, none-summed, one-more, metrics-are}
+use Rattle.clipping_predictor_level_buffer.proofs.Sums.{Summed, later-counted, none-summed, one-few, one-more, metrics-are}
 use Rattle.clipping_predictor_level_buffer.proofs.ClippingPredictorLevelBuffer.summed.Statement.{statement}
 use Rattle.clipping_predictor_level_buffer.proofs.ClippingPredictorLevelBuffer.summed.Tie as tie
 
 abbrev Inv-loop : tie.InvT-loop
-Inv-loop delay items self s₀ m₀ i₀ s m i = (i ≤ items) × Summed (drop delay (stored self)) i s m
+Inv-loop delay items self s₀ m₀ n₀ i₀ s m n i = (i ≤ items) × Summed (drop delay (stored self)) i s m n
 
 abbrev μ-loop : tie.MeasureT-loop
-μ-loop delay items self s₀ m₀ i₀ s m i = items - i
+μ-loop delay items self s₀ m₀ n₀ i₀ s m n i = items - i
 
 loop-holds : tie.Need-loop-holds Inv-loop μ-loop
 unfolding ofBits
@@ -36,6 +36,25 @@ element-copy-out-level c = omega arith
 larger-requires : tie.Need-larger-requires Inv-loop μ-loop
 larger-requires c κs = search needs
 
+-- the record of this turn is the next of those that are not skipped
+this : (c : tie.After-level Inv-loop μ-loop) → let i = c .before .before in let l = i .before .loop in let a = i .before .before .args in
+    getD (a .t1 .data) (c .before .place .result) noLevel ≡ getD (drop (a .delay) (stored (a .t1))) (l .i) noLevel
+this c =
+    let i = c .before .before in
+    let l = i .before .loop in
+    let a = i .before .before .args in
+    ap (λ (k : ℕ). getD (a .t1 .data) k noLevel) (c .before .place .ensures .0) ∙ sym (later-is (a .t1) (a .delay) (l .i) (omega arith))
+
+-- and those have counts in range
+counted : (c : tie.In-loop Inv-loop μ-loop) → let a = c .before .before .args in Counted (drop (a .delay) (stored (a .t1)))
+counted c = let a = c .before .before .args in later-counted (a .delay) (stored (a .t1)) (c .before .before .pre .0 .counted)
+
+add-clipped : tie.Need-add-clipped Inv-loop μ-loop
+add-clipped c =
+    let v = c .before .before .before in
+    let i = v .before .before in
+    omega (arith, i .before .loop .inv .1 .few, one-few _ (i .before .loop .i) _ (counted i) (this v), i .before .before .pre .0 .high)
+
 add-i : tie.Need-add-i Inv-loop μ-loop
 add-i c = omega arith
 
@@ -44,27 +63,23 @@ loop-less c = omega arith
 
 loop-again : tie.Need-loop-again Inv-loop μ-loop
 loop-again c =
-    let a = c .before .before .before .before .before .before .args in
-    let l = c .before .before .before .before .before .loop in
-    let h : a .delay + l .i < a .t1 .size = omega arith in (
-      omega arith,
-      one-more _ (l .i) (l .sum) (l .max) _ _ (l .inv .1) (simp (length-drop, length-stored) (omega arith))
-          (ap (λ (k : ℕ). getD (a .t1 .data) k noLevel) (c .before .before .before .place .ensures .0) ∙ sym (later-is (a .t1) (a .delay) (l .i) h))
-          (c .larger .ensures),
-    )
+    let v = c .before .before .before in
+    let i = v .before .before in
+    let l = i .before .loop in
+    (omega arith, one-more _ (l .i) (l .sum) (l .max) _ _ _ (counted i) (l .inv .1) (simp (length-drop, length-stored) (omega arith)) (this v) (c .before .larger .ensures))
 
 cast-count : tie.Need-cast-count Inv-loop μ-loop
 cast-count c = omega arith
 
-int-to-float-t18 : tie.Need-int-to-float-t18 Inv-loop μ-loop
-int-to-float-t18 c = search needs
+int-to-float-t19 : tie.Need-int-to-float-t19 Inv-loop μ-loop
+int-to-float-t19 c = search needs
 
 returns : tie.Need-returns Inv-loop μ-loop
 returns c =
     let a = c .before .before .before .args in
     let l = c .before .before .loop in
     let same : l .i ≡ a .items = omega arith in
-    metrics-are _ (a .items) (l .sum) (l .max) (subst (λ (n : ℕ). Summed (drop (a .delay) (stored (a .t1))) n (l .sum) (l .max)) same (l .inv .1)) (simp (length-drop, length-stored) (omega arith))
+    metrics-are _ (a .items) (l .sum) (l .max) (l .clipped) (subst (λ (n : ℕ). Summed (drop (a .delay) (stored (a .t1))) n (l .sum) (l .max) (l .clipped)) same (l .inv .1)) (simp (length-drop, length-stored) (omega arith))
 
 pub summed-spec : {M : Type 1} → statement M
 summed-spec =
@@ -78,9 +93,10 @@ summed-spec =
     mul-level
     element-copy-out-level
     larger-requires
+    add-clipped
     add-i
     loop-less
     loop-again
     cast-count
-    int-to-float-t18
+    int-to-float-t19
     returns)

@@ -3,7 +3,7 @@ use Prim.Native.Nat.{_-_}
 use native.Mathlib.Omega.{arith}
 use borrow.Author.Needs.{needs}
 use lib.ListN.{length}
-use Rattle.clipping_predictor_level_buffer.proofs.Steps.{Parts, starts, four-more, whole}
+use Rattle.clipping_predictor_level_buffer.proofs.Steps.{Parts, starts, few, four-more, whole}
 use Rattle.clipping_predictor_level_buffer.proofs.level.both_by_fours.Statement.{statement}
 use Rattle.clipping_predictor_level_buffer.proofs.level.both_by_fours.Tie as tie
 
@@ -25,11 +25,15 @@ loop-holds c = (starts _ _ (c .before .nothing-taken .ensures), starts _ _ (c .n
 sub-loop : tie.Need-sub-loop Inv-loop μ-loop
 sub-loop c = omega arith
 
+-- where the function starts
+abbrev start : tie.At-loop Inv-loop μ-loop → tie.Start Inv-loop μ-loop
+start c = c .before .before .before .before .before
+
 taken-requires : tie.Need-taken-requires Inv-loop μ-loop
-taken-requires c κs = omega arith
+taken-requires c κs = (omega arith, omega (arith, few _ _ _ (c .before .loop .inv .0), start (c .before) .pre .1))
 
 taken-requires-2 : tie.Need-taken-requires-2 Inv-loop μ-loop
-taken-requires-2 c κs = omega arith
+taken-requires-2 c κs = (omega arith, omega (arith, few _ _ _ (c .before .before .loop .inv .1), start (c .before .before) .pre .1))
 
 add-at : tie.Need-add-at Inv-loop μ-loop
 add-at c = omega arith

@@ -3,7 +3,7 @@ use Prim.Native.Nat.{_-_}
 use native.Mathlib.Omega.{arith}
 use borrow.Author.Needs.{needs}
 use lib.ListN.{length}
-use Rattle.clipping_predictor_level_buffer.proofs.Steps.{Parts, starts, four-more, whole}
+use Rattle.clipping_predictor_level_buffer.proofs.Steps.{Parts, starts, few, four-more, whole}
 use Rattle.clipping_predictor_level_buffer.proofs.level.by_fours.Statement.{statement}
 use Rattle.clipping_predictor_level_buffer.proofs.level.by_fours.Tie as tie
 
@@ -23,7 +23,7 @@ sub-loop : tie.Need-sub-loop Inv-loop μ-loop
 sub-loop c = omega arith
 
 taken-requires : tie.Need-taken-requires Inv-loop μ-loop
-taken-requires c κs = omega arith
+taken-requires c κs = let l = c .before .loop in (omega arith, omega (arith, few _ _ _ (l .inv), c .before .before .before .before .pre))
 
 add-at : tie.Need-add-at Inv-loop μ-loop
 add-at c = omega arith

@@ -40,8 +40,13 @@ shared-slice-read-z c = search needs
 with-requires : tie.Need-with-requires
 with-requires c κs = search needs
 
+counted-requires : tie.Need-counted-requires
+counted-requires c κs = search needs
+
 returns : tie.Need-returns
-returns c = let a = c .before .before .before .before .before .before .before .before .args in λ i. record { sum = fourTaken (a .t) (a .samples .now) (a .at) .sum; peaks = c .with .ensures i }
+returns c =
+    let a = c .before .before .before .before .before .before .before .before .before .args in
+    λ i. record { sum = fourTaken (a .t) (a .samples .now) (a .at) .sum; peaks = c .before .with .ensures i; clipped = c .counted .ensures i }
 
 pub taken-spec : {M : Type 1} → statement M
 taken-spec =
@@ -59,4 +64,5 @@ taken-spec =
     mul-z
     shared-slice-read-z
     with-requires
+    counted-requires
     returns)

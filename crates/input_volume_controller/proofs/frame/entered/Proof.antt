@@ -21,7 +21,7 @@ one-frame-more-requires c κs = search needs
 returns : tie.Need-returns
 unfolding viewOf controlOf
 returns c =
-    let s = c .before .before .before .before .before in
+    let s = c .before .before .before .before in
     framed _ _ _ _ (is-waiting _ _ _ _ (c .before .before .if1 .taken)) (with-control (together (s .args .control) (s .args .heard .predictor)) _ _ (s .pre .0) (c .one-frame-more .ensures) refl)
 
 compute-clipped-ratio-requires : tie.Need-compute-clipped-ratio-requires
@@ -34,7 +34,7 @@ returns-2 : tie.Need-returns-2
 unfolding viewOf controlOf
 returns-2 c =
     let r = c .before in
-    let s = r .before .before .before .before in
+    let s = r .before .before .before in
     let k = s .args .control in
     let over = r .before .if1 .left in
     let asked = s .pre .3 ∙ ap (λ (b : Bool). predictedFor (questionIf b (askedOf (controlOf k))) (seen s .predictor)) (le-ltb _ _ over) in
