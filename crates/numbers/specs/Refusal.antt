@@ -24,7 +24,7 @@ numberOf InputVolume = 8
 numberOf FrameSize = 9
 -- estimate: channel unknown, step not 1 to 255, min or max not 0 to 255, min above max, level above max; of the bare volume step, its maximum not 0 to 255, or the volume above it
 numberOf EstimateRange = 10
--- ring: capacity above 64, delay negative, item count below 1, or their sum above capacity
+-- ring: capacity above 64, delay negative, item count below 1, or their sum above capacity; and by document 02 (xi) a record pushed with a count not 0 to 480
 numberOf RingRange = 11
 -- malformed frame line
 numberOf FrameLine = 12
