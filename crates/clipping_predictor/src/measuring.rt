@@ -7,7 +7,6 @@ ghost use lib.ListN.{length};
 ghost use Rattle.numbers.specs.declared.refusal.Outcome.the-variants.{Refused};
 ghost use Rattle.clipping_predictor_level_buffer.specs.Level.{maxSamplesPerChannel, frameRecord, twoRecords};
 ghost use Rattle.clipping_predictor_level_buffer.specs.Clipped.{clippedIn};
-ghost use Rattle.clipping_predictor_level_buffer.specs.Ring.{Counted};
 ghost use Rattle.clipping_predictor.specs.Predictor.{maxChannels, frameFits};
 ghost use Rattle.clipping_predictor.specs.FrameLevels.{silence, silent, levelsArray, MeasuredAs, MeasuredOf};
 ghost use Rattle.clipping_predictor.specs.MostClipped.{mostClipped, mostCounted};
@@ -153,7 +152,7 @@ pub fn measure_channels(
 // How many samples of a channel are clipped.
 fn clipped_in(samples: &[f32]) -> u32
     requires { ⌜ length (now samples) ≤ maxSamplesPerChannel ⌝ }
-    ensures { λ r. ⌜ (r ≡ clippedIn (now (samples .entry))) × (r ≤ length (now (samples .entry))) ⌝ }
+    ensures { λ r. ⌜ r ≡ clippedIn (now (samples .entry)) ⌝ }
 {
     let mut count: u32 = 0;
     let mut at = 0;
@@ -220,6 +219,7 @@ fn unheard(clipped: u32) -> Brought
     }
 }
 
+// Of a predictor that is on all channels are measured; of one that is off their clipped samples are counted, if anything is asked.
 pub(crate) fn bring(
     on: bool,
     channels: usize,

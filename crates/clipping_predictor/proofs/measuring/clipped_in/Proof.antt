@@ -43,7 +43,7 @@ loop-again : tie.Need-loop-again Inv-loop μ-loop
 loop-again c = goes-on _ _ _ _ _ (c .before .before .before .loop .inv) (omega arith) (c .count-of .ensures) refl
 
 returns : tie.Need-returns Inv-loop μ-loop
-returns c = (ends _ _ _ (c .before .loop .inv) (c .loop-test .left), omega (arith, c .before .loop .inv .most, c .before .loop .inv .within))
+returns c = ends _ _ _ (c .before .loop .inv) (c .loop-test .left)
 
 pub clipped-in-spec : {M : Type 1} → statement M
 clipped-in-spec =

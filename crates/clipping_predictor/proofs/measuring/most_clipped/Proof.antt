@@ -77,7 +77,7 @@ loop-again c =
     let l = i .before .loop in
     let s = i .before .before .before .args in
     let here : k .clipped-in .result ≡ clippedIn (partOf (s .samples) (s .frame .now) (l .c)) =
-    k .clipped-in .ensures .0 ∙ ap (λ (n : ℕ). clippedIn (take n (drop (l .c * s .samples) (s .frame .now)))) (size i) in
+    k .clipped-in .ensures ∙ ap (λ (n : ℕ). clippedIn (take n (drop (l .c * s .samples) (s .frame .now)))) (size i) in
     (c .larger .ensures ∙ (λ j. max (l .inv .0 j) (here j)) ∙ sym (one-more [] clippedIn (partOf (s .samples) (s .frame .now)) (s .first) (l .c) (omega arith)), omega arith)
 
 returns : tie.Need-returns Inv-loop μ-loop
