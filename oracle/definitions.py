@@ -204,8 +204,8 @@ EDITS = [
     ("a threshold that rises with the clipped samples", "CountsAreUnread", [
         (PREDICTOR + "Estimate.antt", "use lib.IntN.{ℤ, pos, negsuc, negℤ, _*ℤ_}", "use lib.IntN.{ℤ, pos, negsuc, negℤ, _+ℤ_, _*ℤ_}"),
         (PREDICTOR + "Estimate.antt", "(Finite threshold) (leaf 0) (crestTree", "(Finite (threshold +ℤ pos (window .clipped))) (leaf 0) (crestTree")]),
-    ("a clipped sample counts twice", "CountsWithin", [
-        (RING + "Clipped.antt", "oneIf true = 1", "oneIf true = 2")]),
+    ("one clipped sample too many", "CountsWithin", [
+        (RING + "Clipped.antt", "clippedIn samples = total (map countOf samples)", "clippedIn samples = 1 + total (map countOf samples)")]),
     ("a total counts each record twice", "CountsWithin", [
         (RING + "Metrics.antt", "use mathlib.Core.List.{List, map}", "use mathlib.Core.List.{List, map, _++_}"),
         (RING + "Metrics.antt", "clipped = total (map clippedOf items) }", "clipped = total (map clippedOf (items ++ items)) }")]),
