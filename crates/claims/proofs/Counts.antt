@@ -1,8 +1,8 @@
 -- No call reads the counts of clipped samples, and how large counts and totals can be. Assumes nothing.
 use mathlib.Core.Path.{_≡_, refl, sym, ap, subst, _∙_}
 use mathlib.Core.Bool.{Bool, true, false, _||_, _&&_}
-use mathlib.Core.List.{List, [], _∷_, map, foldl}
-use Prim.Native.Nat.{ℕ, suc, _+_, _*_, _≤_, max}
+use mathlib.Core.List.{List, [], _∷_, map}
+use Prim.Native.Nat.{ℕ, _+_, _≤_, max}
 use native.Mathlib.Omega.{arith}
 use borrow.Author.Tests.{leb-true}
 use lib.Dec.{leb, ltb}
@@ -12,15 +12,15 @@ use lib.ListN.{length, take, drop, length-take}
 use Rattle.numbers.specs.declared.natural.Natural.{Natural}
 use Rattle.numbers.specs.declared.natural.Natural.the-variants.{Number, Outside}
 use Rattle.numbers.specs.Natural.{withinOf}
+use Rattle.numbers.proofs.Truths.{both-true}
 use Rattle.clipping_predictor_level_buffer.specs.declared.level.Level.{Level}
 use Rattle.clipping_predictor_level_buffer.specs.declared.Metrics.the-variants.{Found}
-use Rattle.clipping_predictor_level_buffer.specs.Clipped.{total}
-use Rattle.clipping_predictor_level_buffer.specs.Level.{maxSamplesPerChannel, frameRecord}
+use Rattle.clipping_predictor_level_buffer.specs.Level.{frameRecord}
 use Rattle.clipping_predictor_level_buffer.specs.Ring.{Counted}
 use Rattle.clipping_predictor_level_buffer.specs.Metrics.{clippedOf, metricsOver, foundIf, metricsIf, partialMetrics, computePartialMetrics}
 use Rattle.clipping_predictor_level_buffer.proofs.Clipped.{clipped-most}
-use Rattle.clipping_predictor_level_buffer.proofs.Counts.{counted-tail, counted-take}
-use Rattle.clipping_predictor_level_buffer.proofs.Sums.{later-counted}
+use Rattle.clipping_predictor_level_buffer.proofs.Counts.{counted-take}
+use Rattle.clipping_predictor_level_buffer.proofs.Sums.{later-counted, total-most}
 use Rattle.clipping_predictor.specs.declared.modes.Estimated.{Estimated}
 use Rattle.clipping_predictor.specs.Predictor.{Predictor, frameFits, enteredIf}
 use Rattle.clipping_predictor.specs.AllRings.{predictedBy}
@@ -121,27 +121,15 @@ counts-are-unread = record {
 
 -- ---- how large
 
-total-most′ : (records : List Level) (n : ℕ) → Counted records → foldl _+_ n (map clippedOf records) ≤ n + maxSamplesPerChannel * length records
-total-most′ [] n k = omega arith
-total-most′ (l ∷ records) n k = let h = total-most′ records (n + clippedOf l) (counted-tail l records k) in let few = k .each 0 in omega arith
-
-total-most : (records : List Level) → Counted records → total (map clippedOf records) ≤ maxSamplesPerChannel * length records
-unfolding total
-total-most records k = let h = total-most′ records 0 k in omega arith
-
 metrics-most : (capacity delay n : ℕ) (records : List Level) (a b : Bool) (m : Level) → capacity ≤ 64 → Counted records → (leb 1 n && leb (delay + n) capacity) ≡ a → metricsIf a (foundIf b (take n (drop delay records))) ≡ Found m → m .clipped ≤ 30720
 unfolding metricsOver
 metrics-most capacity delay n records true true m high k t e =
     let items = take n (drop delay records) in
     let h = total-most items (counted-take n (drop delay records) (later-counted delay records k)) in
     let l = length-take n (drop delay records) in
-    let r : leb (delay + n) capacity ≡ true = right (leb 1 n) (leb (delay + n) capacity) t in
+    let r = both-true (leb 1 n) (leb (delay + n) capacity) t .1 in
     let is : metricsOver items ≡ m = cc in
     omega (arith, h, l, leb-true (delay + n) capacity r, high, ap clippedOf is)
-  where
-    right : (x y : Bool) → (x && y) ≡ true → y ≡ true
-    right true y t = t
-    right false y t = absurd (let z : _≡_ {A = ℕ} 0 1 = cc in omega arith)
 metrics-most capacity delay n records true false m high k t e = let z : _≡_ {A = ℕ} 0 1 = cc in absurd (omega arith)
 metrics-most capacity delay n records false b m high k t e = let z : _≡_ {A = ℕ} 0 1 = cc in absurd (omega arith)
 

@@ -12,6 +12,7 @@ use lib.Signed.{ltZ, leZ}
 use lib.Ieee.{Float, nan, inf, fin, up, down, le, lt, eq, ofInt}
 use lib.Ieee.Fits.{eq→eqb}
 use lib.ListN.{take, drop, replicate, length-replicate}
+use Rattle.numbers.proofs.Truths.{and-false}
 use Rattle.numbers.specs.Natural.{withinOf}
 use Rattle.numbers.specs.Listed.{listed}
 use Rattle.levels.specs.declared.decibels.Decibels.the-variants.{Finite}
@@ -156,10 +157,6 @@ none-low (inf true) t h = above 0 t h
 none-low (inf false) t h = refl
 none-low (fin true m e) t h = above 0 t h
 none-low (fin false m e) t h = above (Decibel.thousandths 20000 (m * up e) (down e)) t h
-
-and-false : (a : Bool) → (a && false) ≡ false
-and-false true = refl
-and-false false = refl
 
 none-quiet : (p : Predictor.Settings) (channels samples : ℕ) (lent : List Float) → 1 ≤ channels → T (ltZ (comparedIn (p .mode) (p .threshold)) silent) → quietFor p channels samples lent ≡ false
 unfolding quietFor all listed isLow

@@ -7,6 +7,7 @@ use Prim.Native.Nat.{ℕ}
 use native.Mathlib.Omega.{arith}
 use lib.Ieee.{Float}
 use lib.ListN.{length, length-replicate}
+use Rattle.numbers.proofs.Truths.{and-false}
 use Rattle.numbers.specs.declared.natural.Natural.{Natural}
 use Rattle.numbers.specs.declared.natural.Natural.the-variants.{Number, Outside}
 use Rattle.numbers.specs.Natural.{withinOf}
@@ -61,15 +62,11 @@ unfolding aggregated
 recommends true waiting applied probability level c h = refl
 recommends false waiting applied probability level c h = h
 
-both : (t : Bool) → (t && false) ≡ false
-both true = refl
-both false = refl
-
 recommendation-waits : (a : Applied) (waiting : Bool) (probability : Float) (level : SpeechLevel) (c : Controller) → c .control .applied ≡ a → Pending waiting (c .control)
     → Pending (not (c .control .used) && waiting) (unlessNone a probability level c .state .control)
 recommendation-waits Nothing waiting probability level c e h =
     let idle : waiting ≡ false = sym h ∙ ap isPending e in
-    ap isPending e ∙ sym (ap (λ (w : Bool). not (c .control .used) && w) idle ∙ both (not (c .control .used)))
+    ap isPending e ∙ sym (ap (λ (w : Bool). not (c .control .used) && w) idle ∙ and-false (not (c .control .used)))
 recommendation-waits (Volume v) waiting probability level c e h = recommends (c .control .used) waiting v probability level c h
 
 -- ---- every call

@@ -1,7 +1,7 @@
 -- An estimate does not read the counts of a ring's records, and records enter and leave rings alike with their counts and without. Assumes nothing.
 use mathlib.Core.Path.{_≡_, refl, sym, ap, ap₂, _∙_}
 use mathlib.Core.Bool.{Bool, true, false, _&&_}
-use mathlib.Core.List.{List, [], _∷_, map, foldl}
+use mathlib.Core.List.{List, [], _∷_, map, map-map, foldl}
 use Prim.Native.Nat.{ℕ, zero, suc, _+_}
 use native.Mathlib.Omega.{arith}
 use lib.Dec.{leb}
@@ -23,6 +23,7 @@ use Rattle.clipping_predictor.specs.Estimate.{capacityOf, modeTree, windowsTree
 use Rattle.clipping_predictor.specs.Predictor.{Predictor, levelsOf, pushEach, enteredIf, emptied}
 use Rattle.clipping_predictor.specs.AllRings.{joined, noEstimate, predictedBy}
 use Rattle.claims.specs.Counts.{uncounted, uncountedRings}
+use Rattle.claims.proofs.Lists.{map-same}
 
 -- ---- lists
 
@@ -39,8 +40,7 @@ module _ {A B : Type 0} (f : A → B) where
 
   -- what f does not change of g
   after-map : {C : Type 0} (g : B → C) (h : A → C) → ((x : A) → g (f x) ≡ h x) → (xs : List A) → map g (map f xs) ≡ map h xs
-  after-map g h e [] = refl
-  after-map g h e (x ∷ xs) = λ i. e x i ∷ after-map g h e xs i
+  after-map g h e xs = map-map g f xs ∙ map-same (λ x. g (f x)) h xs e
 
 -- ---- metrics
 

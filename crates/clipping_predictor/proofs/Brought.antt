@@ -57,7 +57,3 @@ module _ (channels samples : ℕ) (frame : List Float) (question : Question) (on
     counted = subst Counted (sym are) (array-counted channels samples frame few);
     clipped-is = e;
   }
-
-pub off-or-not : (on : Bool) → (on && false) ≡ false
-off-or-not true = refl
-off-or-not false = refl

@@ -7,6 +7,7 @@ use native.Mathlib.Decide.{decLe}
 use lib.Dec.{ltb}
 use lib.IntN.{ℤ, pos, negsuc, natAbs, _-ℤ_}
 use borrow.Author.Tests.{le-leb, lt-leb, leb-true, lt-ltb, ltb-true, ltb-false}
+use Rattle.numbers.proofs.Truths.{both-true}
 use Rattle.numbers.proofs.Signs.{clash}
 use Rattle.levels.specs.declared.decibels.Decibels.the-variants.{Finite}
 use Rattle.levels.specs.Decibels.{near, within, nearDistance}
@@ -40,16 +41,11 @@ nearCeiling z = ltb (nearestWhole z) maxGainChange && near (Finite z) (Finite (p
 abbrev pub Close : ℤ → ℕ → Type 0
 Close z k = natAbs (z -ℤ pos (k * 1000)) ≤ nearDistance
 
-both : (a b : Bool) → (a && b) ≡ true → (a ≡ true) × (b ≡ true)
-both true true e = (refl, refl)
-both true false e = clash (sym e)
-both false b e = clash (sym e)
-
 -- near means that the nearest whole dB is one from 0 to 14 and within the near distance
 pub near-means : (z : ℤ) → nearCeiling z ≡ true → (nearestWhole z < maxGainChange) × Close z (nearestWhole z)
 unfolding within
 near-means z e =
-    let p = both (ltb (nearestWhole z) maxGainChange) (near (Finite z) (Finite (pos (nearestWhole z * 1000)))) e in
+    let p = both-true (ltb (nearestWhole z) maxGainChange) (near (Finite z) (Finite (pos (nearestWhole z * 1000)))) e in
     (ltb-true (nearestWhole z) maxGainChange (p .0), leb-true (natAbs (z -ℤ pos (nearestWhole z * 1000))) nearDistance (p .1))
 
 -- the distance of two numbers, and of a negative number from a whole one

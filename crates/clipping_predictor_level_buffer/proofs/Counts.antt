@@ -87,12 +87,10 @@ module _ (x : ℤ) (s : ClippingPredictorLevelBuffer) (level : Level) where
     pushed = record { good = p .good; capacity-is = p .capacity-is; stored-is = rw t (p .stored-is); same = λ e. clash (sym t ∙ e) };
   }
 
--- the record that is offered, of a number n that is a count
-pub push-offered : (x : ℤ) (n : ℕ) (s : ClippingPredictorLevelBuffer) (average max : Float) (r : ClippingPredictorLevelBuffer) → withinOf 0 maxSamplesPerChannel x ≡ Number n
-    → Pushed s (record { average = average; max = max; clipped = n }) r → PushedOf x s (offered average max x) (record { ring = r; answer = Accepted })
-push-offered x n s average max r e p =
-    let i = told 0 maxSamplesPerChannel x n e in
-    subst (λ (z : ℤ). PushedOf z s (offered average max z) (record { ring = r; answer = Accepted })) (sym (i .is)) (push-accepted (pos n) s (offered average max (pos n)) r (is-count n (i .most)) p)
+-- a count that is a number n is offered as n
+pub push-offered : (x : ℤ) (n : ℕ) (s : ClippingPredictorLevelBuffer) (average max : Float) (r : AfterPush) → withinOf 0 maxSamplesPerChannel x ≡ Number n
+    → PushedOf (pos n) s (record { average = average; max = max; clipped = n }) r → PushedOf x s (offered average max x) r
+push-offered x n s average max r e p = subst (λ (z : ℤ). PushedOf z s (offered average max z) r) (sym (told 0 maxSamplesPerChannel x n e .is)) p
 
 -- a level whose count is in range is pushed
 pub level-pushed : (s : ClippingPredictorLevelBuffer) (level : Level) (r : AfterPush) → level .clipped ≤ maxSamplesPerChannel → PushedOf (pos (level .clipped)) s level r → Pushed s level (r .ring)

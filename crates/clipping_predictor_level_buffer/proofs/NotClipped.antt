@@ -8,6 +8,7 @@ use lib.Dec.{T, eqb}
 use lib.IntN.{ℤ, pos, negsuc}
 use lib.Ieee.{Float, nan, inf, fin, binary32, fits, isNan, lt, le, eq, ofInt, ofBits, round, up, down, below, level}
 use Rattle.numbers.proofs.Signs.{clash}
+use Rattle.numbers.proofs.Truths.{both-true}
 use Rattle.levels.specs.FloatParts.{magnitudeOf, magnitudeBitsOf}
 use Rattle.levels.proofs.BitOrder.{bit-order, bits-of-magnitude, bits-within}
 use Rattle.clipping_predictor_level_buffer.specs.Clipped.{oneIf, isClipped, countOf}
@@ -80,14 +81,9 @@ below-none x f h =
     ap oneIf (not-clipped x f below)
 
 -- and of four samples
-all-of : (a b c d : Bool) → ((a && b) && (c && d)) ≡ true → (a ≡ true) × (b ≡ true) × (c ≡ true) × (d ≡ true)
-all-of true true true true h = (refl, refl, refl, refl)
-all-of true true true false h = clash (sym h)
-all-of true true false d h = clash (sym h)
-all-of true false c d h = clash (sym h)
-all-of false b c d h = clash (sym h)
-
 pub four-below : (n : ℕ) (w x y z : Float) → T (fits binary32 w) → T (fits binary32 x) → T (fits binary32 y) → T (fits binary32 z) → ((isBelow w && isBelow x) && (isBelow y && isBelow z)) ≡ true → n ≡ countingFour n w x y z
 four-below n w x y z f g h k e =
-    let a = all-of _ _ _ _ e in
-    omega (arith, below-none w f (a .0), below-none x g (a .1), below-none y h (a .2), below-none z k (a .3))
+    let a = both-true (isBelow w && isBelow x) (isBelow y && isBelow z) e in
+    let b = both-true (isBelow w) (isBelow x) (a .0) in
+    let c = both-true (isBelow y) (isBelow z) (a .1) in
+    omega (arith, below-none w f (b .0), below-none x g (b .1), below-none y h (c .0), below-none z k (c .1))

@@ -202,10 +202,7 @@ impl ClippingPredictorLevelBuffer {
             max,
             clipped: n as u32,
         };
-        AfterPush {
-            ring: self.pushed(level),
-            answer: Outcome::Accepted,
-        }
+        self.push_level(level)
     }
 
     // The i-th record, counted from the newest as 0.

@@ -1,4 +1,5 @@
 pub mod Signs
+pub mod Truths
 pub mod WithSign
 pub mod Powers
 pub mod Tables

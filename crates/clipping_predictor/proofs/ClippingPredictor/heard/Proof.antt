@@ -6,6 +6,7 @@ use Prim.Native.Nat.{ℕ}
 use denote.Ref.{now}
 use lib.Ieee.{Float}
 use Rattle.numbers.proofs.Signs.{clash}
+use Rattle.numbers.proofs.Truths.{and-false, both-true}
 use Rattle.clipping_predictor_level_buffer.specs.declared.level.Level.{Level}
 use Rattle.clipping_predictor_level_buffer.specs.Level.{frameRecord}
 use Rattle.clipping_predictor.specs.declared.modes.Question.{Question}
@@ -17,7 +18,6 @@ use Rattle.clipping_predictor.specs.AllRings.{predictedIf, withLevelsIf,
 use Rattle.clipping_predictor.proofs.Frames.{off-same, entered-frame}
 use Rattle.clipping_predictor.proofs.FrameLevels.{array-entered}
 use Rattle.clipping_predictor.proofs.Joins.{off-none}
-use Rattle.clipping_predictor.proofs.Brought.{off-or-not}
 use borrow.Author.Needs.{needs}
 use Rattle.clipping_predictor.proofs.ClippingPredictor.heard.Statement.{statement}
 use Rattle.clipping_predictor.proofs.ClippingPredictor.heard.Tie as tie
@@ -44,7 +44,7 @@ module _ (p : ClippingPredictor) (samples : ℕ) (frame : List Float) (question 
 
     by-tests : (on fit : Bool) → p .settings .enabled ≡ on → fits ≡ fit → HeardOf p samples frame question r
     unfolding viewOf
-    by-tests on false o f = unheard false f (hears on false o f ∙ off-or-not on) refl refl
+    by-tests on false o f = unheard false f (hears on false o f ∙ and-false on) refl refl
     by-tests false true o f =
         let records : ℕ → Level = λ c. frameRecord (partOf samples frame c) in
         unheard true f (hears false true o f) (off-same p records good o ∙ entered-frame p records samples frame (λ c k. refl)) (off-none question (viewOf p) (good .settings) o)
@@ -60,16 +60,11 @@ module _ (p : ClippingPredictor) (samples : ℕ) (frame : List Float) (question 
           clipped-is = h .clipped-is ∙ brought .clipped-is;
         }
 
--- levels that are heard come to a predictor that is on
-left : (x y : Bool) → (x && y) ≡ true → x ≡ true
-left true y k = refl
-left false y k = k
-
 bring-requires : tie.Need-bring-requires
 bring-requires c κs = c .before .pre .channels-high
 
 heard-levels-requires : tie.Need-heard-levels-requires
-heard-levels-requires c κs = let b = c .bring .ensures in (c .before .before .pre, record { on = λ e. left _ _ (sym (b .hears-is) ∙ e); counted = b .counted })
+heard-levels-requires c κs = let b = c .bring .ensures in (c .before .before .pre, record { on = λ e. both-true _ _ (sym (b .hears-is) ∙ e) .0; counted = b .counted })
 
 returns : tie.Need-returns
 returns c =

@@ -6,13 +6,14 @@ use Prim.Native.Nat.{ℕ, _≤_}
 use denote.Ref.{now}
 use native.Mathlib.Omega.{arith}
 use borrow.Author.Tests.{not-true, not-false}
+use Rattle.numbers.proofs.Truths.{and-false}
 use Rattle.clipping_predictor_level_buffer.specs.declared.level.Level.{Level}
 use Rattle.clipping_predictor.specs.Predictor.{frameFits}
 use Rattle.clipping_predictor.specs.MostClipped.{mostClipped, mostCounted}
 use Rattle.clipping_predictor.specs.AllRings.{hearing, isAsked, clippedFor, clippedIf}
 use Rattle.clipping_predictor.proofs.Frames.{fits}
 use Rattle.clipping_predictor.proofs.MostClipped.{counted-clipped}
-use Rattle.clipping_predictor.proofs.Brought.{brings-nothing, brings-levels, off-or-not}
+use Rattle.clipping_predictor.proofs.Brought.{brings-nothing, brings-levels}
 use borrow.Author.Needs.{needs}
 use Rattle.clipping_predictor.proofs.measuring.bring.Statement.{statement}
 use Rattle.clipping_predictor.proofs.measuring.bring.Tie as tie
@@ -31,7 +32,7 @@ returns c =
     let f = c .before .before in
     let s = f .before .before .args in
     let e : frameFits (s .channels) (s .samples) (now (s .frame)) ≡ false = sym (f .frame-fits .ensures) ∙ not-true _ (c .before .if1 .taken) in
-    brings-nothing _ _ _ _ (s .on) 0 _ (ap (λ (b : Bool). s .on && b) e ∙ off-or-not (s .on)) (sym (ap (λ (b : Bool). clippedIf b (clippedFor (s .question) (s .channels) (s .samples) (now (s .frame)))) e)) (c .unheard .ensures)
+    brings-nothing _ _ _ _ (s .on) 0 _ (ap (λ (b : Bool). s .on && b) e ∙ and-false (s .on)) (sym (ap (λ (b : Bool). clippedIf b (clippedFor (s .question) (s .channels) (s .samples) (now (s .frame)))) e)) (c .unheard .ensures)
 
 is-asked-requires : tie.Need-is-asked-requires
 is-asked-requires c κs = search needs

@@ -31,13 +31,13 @@ returns c = back (c .before .before .before) _ (push-refused _ _ _ (outside-coun
 cast-t10 : tie.Need-cast-t10
 cast-t10 c = omega (arith, inside-count _ _ (sym (c .before .before .before .within .ensures) ∙ c .before .counted .given .1) .0)
 
-pushed-requires : tie.Need-pushed-requires
-pushed-requires c κs = (c .before .before .before .before .pre, inside-count _ _ (sym (c .before .before .before .within .ensures) ∙ c .before .counted .given .1) .0)
+push-level-requires : tie.Need-push-level-requires
+push-level-requires c κs = c .before .before .before .before .pre
 
 returns-2 : tie.Need-returns-2
 returns-2 c =
     let k = c .before .before .before .before in
-    back (k .before) _ (push-offered _ _ _ _ _ _ (sym (k .within .ensures) ∙ c .before .before .counted .given .1) (c .pushed .ensures))
+    back (k .before) _ (push-offered _ _ _ _ _ _ (sym (k .within .ensures) ∙ c .before .before .counted .given .1) (c .push-level .ensures))
 
 pub push-spec : {M : Type 1} → statement M
 push-spec =
@@ -48,5 +48,5 @@ push-spec =
     enum-told
     returns
     cast-t10
-    pushed-requires
+    push-level-requires
     returns-2)

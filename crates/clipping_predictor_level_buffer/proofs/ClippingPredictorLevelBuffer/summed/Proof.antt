@@ -7,7 +7,7 @@ use lib.Ieee.{ofBits}
 use lib.ListN.{getD, drop, length-drop}
 use Rattle.clipping_predictor_level_buffer.specs.Ring.{noLevel, stored, Counted}
 use Rattle.clipping_predictor_level_buffer.proofs.Records.{length-stored, later-is}
-use Rattle.clipping_predictor_level_buffer.proofs.Sums.{Summed, later-counted, none-summed, one-few, one-more, metrics-are}
+use Rattle.clipping_predictor_level_buffer.proofs.Sums.{Summed, later-counted, none-summed, few, one-few, one-more, metrics-are}
 use Rattle.clipping_predictor_level_buffer.proofs.ClippingPredictorLevelBuffer.summed.Statement.{statement}
 use Rattle.clipping_predictor_level_buffer.proofs.ClippingPredictorLevelBuffer.summed.Tie as tie
 
@@ -53,7 +53,7 @@ add-clipped : tie.Need-add-clipped Inv-loop μ-loop
 add-clipped c =
     let v = c .before .before .before in
     let i = v .before .before in
-    omega (arith, i .before .loop .inv .1 .few, one-few _ (i .before .loop .i) _ (counted i) (this v), i .before .before .pre .0 .high)
+    omega (arith, few _ _ _ _ _ (counted i) (i .before .loop .inv .1), one-few _ (i .before .loop .i) _ (counted i) (this v), i .before .before .pre .0 .high)
 
 add-i : tie.Need-add-i Inv-loop μ-loop
 add-i c = omega arith
@@ -66,7 +66,7 @@ loop-again c =
     let v = c .before .before .before in
     let i = v .before .before in
     let l = i .before .loop in
-    (omega arith, one-more _ (l .i) (l .sum) (l .max) _ _ _ (counted i) (l .inv .1) (simp (length-drop, length-stored) (omega arith)) (this v) (c .before .larger .ensures))
+    (omega arith, one-more _ (l .i) (l .sum) (l .max) _ _ _ (l .inv .1) (simp (length-drop, length-stored) (omega arith)) (this v) (c .before .larger .ensures))
 
 cast-count : tie.Need-cast-count Inv-loop μ-loop
 cast-count c = omega arith
