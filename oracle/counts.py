@@ -13,6 +13,7 @@ import re
 import sys
 
 from levels import value
+from stored import asked, stored_lines
 
 MOST = 480  # the most samples that a channel has in a frame, and so the most that a record counts
 CAPACITY = 64
@@ -154,28 +155,17 @@ def put():
 def stored():
     """How many counts and totals are stored, and how many answers differ from the words."""
     counts, records, totals, differ = Counts(), 0, 0, 0
-    with open("crates/replay/stdout") as f:
-        for line in f:
-            command, answer = line.rstrip("\n").split(" => ", 1)
-            is_total = command[0] == "m" and answer.count(" ") == 2 and not answer.startswith("!")
-            wanted = counts.put(command, answer.rsplit(" ", 1)[0] if is_total else without(answer))
-            totals += is_total
-            records += sum(ring.count(":") // 3 for ring in RING.findall(answer))
-            if answer != wanted:
-                differ += 1
-                print(f"{line.rstrip()}, by the words {wanted}")
+    for command, answer in stored_lines():
+        is_total = command[0] == "m" and answer.count(" ") == 2 and not answer.startswith("!")
+        wanted = counts.put(command, answer.rsplit(" ", 1)[0] if is_total else without(answer))
+        totals += is_total
+        records += sum(ring.count(":") // 3 for ring in RING.findall(answer))
+        if answer != wanted:
+            differ += 1
+            print(f"{command} => {answer}, by the words {wanted}")
     print(f"{records} records, {totals} totals, {differ} differ")
     return differ
 
 
-def main():
-    if sys.argv[1:] == ["put"]:
-        put()
-    elif sys.argv[1:] == ["stored"]:
-        sys.exit(stored() != 0)
-    else:
-        sys.exit(__doc__)
-
-
 if __name__ == "__main__":
-    main()
+    asked(__doc__, put=put, stored=stored)

@@ -13,10 +13,10 @@ import ctypes
 import math
 import random
 import struct
-import sys
 
 from counts import clipped
 from levels import OFFSET, level_of, value
+from stored import asked, stored_lines
 from table_bytes import gains
 
 NEAR = 6
@@ -289,36 +289,25 @@ def stored():
     """How many estimates there are in crates/replay/stdout that are not refused, marked ones, and such that differ from the words."""
     estimates = marked = differ = 0
     predictor = None
-    with open("crates/replay/stdout") as f:
-        for line in f:
-            command, answer = line.rstrip("\n").split(" => ", 1)
-            kind, *fields = command.split(" ")
-            if kind == "P" and not answer.startswith("!"):
-                predictor = Predictor(list(map(int, fields)))
-            elif kind == "F" and answer.startswith("ok"):
-                predictor.push(newest(answer))
-            elif kind == "X":
-                predictor.reset()
-            elif kind == "E" and not answer.startswith("!"):
-                channel, *asked = map(int, fields)
-                estimates += 1
-                marked += answer.endswith(" n")
-                wanted = shown(predictor.tree(channel, asked[0], asked[2]), *asked)
-                if answer != wanted:
-                    differ += 1
-                    print(f"{line.rstrip()}, by the words {wanted}")
+    for command, answer in stored_lines():
+        kind, *fields = command.split(" ")
+        if kind == "P" and not answer.startswith("!"):
+            predictor = Predictor(list(map(int, fields)))
+        elif kind == "F" and answer.startswith("ok"):
+            predictor.push(newest(answer))
+        elif kind == "X":
+            predictor.reset()
+        elif kind == "E" and not answer.startswith("!"):
+            channel, *given = map(int, fields)
+            estimates += 1
+            marked += answer.endswith(" n")
+            wanted = shown(predictor.tree(channel, given[0], given[2]), *given)
+            if answer != wanted:
+                differ += 1
+                print(f"{command} => {answer}, by the words {wanted}")
     print(f"{estimates} estimates, {marked} marked, {differ} differ")
     return differ
 
 
-def main():
-    if sys.argv[1:] == ["lines"]:
-        print("\n".join(lines()))
-    elif sys.argv[1:] == ["stored"]:
-        sys.exit(stored() != 0)
-    else:
-        sys.exit(__doc__)
-
-
 if __name__ == "__main__":
-    main()
+    asked(__doc__, lines=lambda: print("\n".join(lines())), stored=stored)

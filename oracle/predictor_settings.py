@@ -13,6 +13,8 @@ import itertools
 import subprocess
 import sys
 
+from stored import stored_lines
+
 WINDOWS = [-2**31, -1, 0, 1, 4, 5, 59, 60, 63, 64, 65, 2**31 - 1]
 LEVELS = [200_000, -200_000, 200_001, -200_001]
 # of the pairs that the lines in replay take in turn, half are in range
@@ -64,8 +66,7 @@ def lines():
 
 def stored():
     """The makings that are stored, and those whose answer is another."""
-    with open("crates/replay/stdout") as f:
-        makings = [line.rstrip("\n").split(" => ") for line in f if line.startswith("P ")]
+    makings = [line for line in stored_lines() if line[0].startswith("P ")]
     return makings, [(c, said, answer(*map(int, c.split()[1:]))) for c, said in makings if said != answer(*map(int, c.split()[1:]))]
 
 
