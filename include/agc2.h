@@ -13,11 +13,11 @@
  * A call answers 0, or the number of its refusal (agc2_words), and a refused call leaves the controller's state, the words in it, as it was, byte for byte. In front of the state stand
  * the last answers: a frame, refused or not, writes `refusal` and `near` and sets `present` and `volume` to 0; a recommendation writes `present` and `volume`.
  *
- * No argument is out of bounds but two kinds: a pointer must be valid, with as many samples behind it as the count says, none of them within the controller; and a controller
+ * No argument is out of bounds but two kinds: a pointer must be valid, with as many samples or volumes behind it as the count says, none of them within the controller; and a controller
  * must be one that agc2_new or agc2_new_with_predictor accepted and that nobody else wrote to. A controller has no pointer in it and may be copied and moved; two threads must not use one at once.
  * The proofs take floats to work as they do by default: rounded to nearest, with no subnormal number flushed to zero.
  *
- * The stack that a call needs, as measured with clang and gcc at -O0 and -O2: 22 KB for a frame, 14.2 KB for a making, agc2_stored_record and agc2_compute_partial_metrics, 1.9 KB for any other
+ * The stack that a call needs, as measured with clang and gcc at -O0 and -O2: 22.1 KB for a frame, 14.2 KB for a making, agc2_stored_record and agc2_compute_partial_metrics, 1.9 KB for any other
  * (bindings/c/stack.c); where memcpy is bound late, the first call needs 3 KB more. */
 #ifndef AGC2_H
 #define AGC2_H
@@ -31,7 +31,8 @@ extern "C" {
 
 enum { AGC2_MAX_CHANNELS = 8, AGC2_MAX_SAMPLES_PER_CHANNEL = 480 };
 
-/* The refusals of these calls: agc2_new has 1 to 6, agc2_new_with_predictor 7, 14 and 15 besides, agc2_analyze_input_audio 8 and 9, agc2_compute_partial_metrics 11. */
+/* The refusals of these calls: agc2_new has 1 to 6, agc2_new_with_predictor 7, 14 and 15 besides, agc2_analyze_input_audio 8 and 9, agc2_analyze_input_audio_each 20 besides,
+ * agc2_compute_partial_metrics 11. */
 enum {
     AGC2_ACCEPTED = 0,
     AGC2_CHANNEL_COUNT = 1,
@@ -45,7 +46,8 @@ enum {
     AGC2_FRAME_SIZE = 9,
     AGC2_RING_RANGE = 11,
     AGC2_PREDICTOR_CAPACITY = 14,
-    AGC2_PREDICTOR_LEVELS = 15
+    AGC2_PREDICTOR_LEVELS = 15,
+    AGC2_VOLUME_COUNT = 20
 };
 
 /* The settings, any bits; agc2_default_config has the original's. The predictor is off at 0, and on at any other number. */
@@ -150,6 +152,7 @@ agc2_controller agc2_new_with_predictor_by_value(int32_t num_capture_channels, a
 agc2_control_state agc2_initialize_by_value(agc2_control_state control);
 agc2_control_state agc2_handle_capture_output_used_change_by_value(agc2_control_state control, uint32_t capture_output_used);
 void agc2_analyze_input_audio_into(agc2_controller *controller, int32_t applied_input_volume, size_t samples_per_channel, const float *samples, size_t count);
+void agc2_analyze_input_audio_each_into(agc2_controller *controller, const int32_t *volumes, size_t volume_count, size_t samples_per_channel, const float *samples, size_t count);
 void agc2_recommend_input_volume_into(agc2_control *control, float speech_probability, uint32_t has_speech_level, float speech_level_dbfs);
 int32_t agc2_recommended_input_volume_by_value(agc2_control_state control);
 agc2_record agc2_stored_record_by_value(agc2_controller controller, size_t channel, size_t i);
@@ -191,6 +194,14 @@ static inline void agc2_handle_capture_output_used_change(agc2_controller *contr
  * scale, count in all. Refuses with 8 and 9, with capture off too. */
 static inline uint32_t agc2_analyze_input_audio(agc2_controller *controller, int32_t applied_input_volume, size_t samples_per_channel, const float *samples, size_t count) {
     agc2_analyze_input_audio_into(controller, applied_input_volume, samples_per_channel, samples, count);
+    return controller->refusal;
+}
+
+/* The same where each microphone has a volume of its own: volume_count volumes, one for each channel in their order, taken whole or not at all. The lowest is the volume that is applied, which a
+ * recommendation with capture off repeats, and with capture on the recommendation is the lowest of the channels. Only if every volume is above 0 it is raised to min_input_volume. Equal volumes are
+ * agc2_analyze_input_audio, byte for byte. Refuses with 20 if volume_count is not the channel count, then with 8 if any volume is not 0 to 255, then with 9. */
+static inline uint32_t agc2_analyze_input_audio_each(agc2_controller *controller, const int32_t *volumes, size_t volume_count, size_t samples_per_channel, const float *samples, size_t count) {
+    agc2_analyze_input_audio_each_into(controller, volumes, volume_count, samples_per_channel, samples, count);
     return controller->refusal;
 }
 
@@ -256,6 +267,8 @@ static inline const char *agc2_words(uint32_t refusal) {
         return "predictor delay + reference above 64";
     case AGC2_PREDICTOR_LEVELS:
         return "predictor threshold or margin not -200,000 to 200,000 thousandths of a dB";
+    case AGC2_VOLUME_COUNT:
+        return "volumes not as many as the channels";
     default:
         return "no refusal of this library";
     }

@@ -5,7 +5,8 @@ usage: calls.py ORACLE REPLAY [COUNT [SEED]]
 
 ORACLE is the driver over the unchanged Rust (`probe` of rust/), REPLAY the program of crates/replay. Both get the same commands: controllers of one to eight
 channels with settings from all of the table's domain, frames of 1 to 480 samples a channel with infinite and not-a-number samples among them, recommendations,
-initialises and capture switches. Frames and settings that the table refuses go to the port alone: the refusal must be the table's, and the state must stay.
+initialises and capture switches. Half of the frames go to the port as a set of equal volumes (`V`, document 02 (xiv)), where the Rust gets its one volume. Frames, sets and settings that are
+refused go to the port alone: the refusal must be the table's, a set's 20 before 8 before 9, and the state must stay.
 After each call the two states must be equal: the volume, the pending volume, the capture switch, the count since clipping, the controlling channel, every figure
 of every channel, and each ring's count and newest record; all records of all rings from time to time. The Rust's records have no count of clipped samples: the port's
 are left out there, and must be those of the words (counts.py). A marked call may differ; the controller is then left, since
@@ -81,6 +82,42 @@ def frame(rnd, channels, volume):
     return f"A {volume} " + "".join(part(rnd, size, loud) for _ in range(channels))
 
 
+def as_set(command, channels, volumes):
+    """A frame `A` with a set of volumes in place of its one."""
+    floats = command.split(" ")[2]
+    return " ".join(map(str, ["V", len(floats) // 8 // channels, len(volumes), *volumes, floats]))
+
+
+def refused_set(rnd, channels):
+    """A frame with a set that is refused, and the number: whatever else is wrong with it, a wrong count comes first, then a volume that is none, then the samples."""
+    def good():
+        return rnd.randint(0, 255)
+    cause = rnd.choice([20, 8, 9])
+    count = rnd.choice([n for n in (0, channels - 1, channels + 1, 1, 8, 9, 16, 17, 40) if n != channels]) if cause == 20 else channels
+    volumes = [good() for _ in range(count)]
+    if count and (cause == 8 or cause == 20 and rnd.random() < 0.5):
+        volumes[rnd.randrange(count)] = rnd.choice([-1, 256, 300, 2147483647, -2147483648])
+    size, lent = rnd.choice([(0, 0), (481, channels), (1, channels + 1), (2, channels), (0, channels), (-1, 0)])
+    if cause != 9 and rnd.random() < 0.5:
+        size, lent = 1, channels
+    return " ".join(map(str, ["V", size, count, *volumes, "00000000" * lent])), cause
+
+
+def with_sets(rnd, calls):
+    """The calls with what goes to the Rust beside each, or None: half of the frames as sets of equal volumes, and sets that are refused between them."""
+    channels = 1
+    for command, cause in calls:
+        if cause is None and command[0] == "N":
+            channels = int(command.split(" ")[1])
+        if rnd.random() < 0.03 and command[0] != "N":
+            yield (*refused_set(rnd, channels), None)
+        if command[0] == "A" and rnd.random() < 0.5:
+            volume = int(command.split(" ")[1])
+            yield as_set(command, channels, [volume] * channels), cause, command
+        else:
+            yield command, cause, command if cause is None else None
+
+
 def session(rnd):
     """A controller and some calls on it: pairs of a command and the refusal's number, if the table refuses it."""
     channels, made = settings(rnd)
@@ -143,18 +180,19 @@ def port_state(answer):
 def main():
     oracle, replay = sys.argv[1:3]
     wanted = int(sys.argv[3]) if len(sys.argv) > 3 else 2_000_000
-    rnd = random.Random(int(sys.argv[4]) if len(sys.argv) > 4 else 1)
-    counts = dict(calls=0, controllers=0, frames=0, recommendations=0, none=0, initialises=0, switches=0, dumps=0, refused=0, statistics_panics=0, marked=0, marked_apart=0, left=0, differ=0)
-    names = dict(A="frames", R="recommendations", I="initialises", C="switches", N="controllers")
+    seed = int(sys.argv[4]) if len(sys.argv) > 4 else 1
+    rnd, sets = random.Random(seed), random.Random(seed + 1)
+    counts = dict(calls=0, controllers=0, frames=0, sets=0, recommendations=0, none=0, initialises=0, switches=0, dumps=0, refused=0, refused_sets=0, statistics_panics=0, marked=0, marked_apart=0, left=0, differ=0)
+    names = dict(A="frames", V="frames", R="recommendations", I="initialises", C="switches", N="controllers")
     while counts["calls"] < wanted:
         commands = []
         while len(commands) < PIECE:
-            commands += session(rnd)
-        theirs = iter(run(oracle, [c for c, cause in commands if cause is None]))
-        ours = run(replay, ["V"] + [c for c, _ in commands])[1:]
+            commands += with_sets(sets, session(rnd))
+        theirs = iter(run(oracle, [rust for _, _, rust in commands if rust is not None]))
+        ours = run(replay, ["V"] + [command for command, _, _ in commands])[1:]
         assert len(ours) == len(commands), (len(ours), len(commands))
         apart, before, counted = False, None, Counts()
-        for (command, cause), port in zip(commands, ours):
+        for (command, cause, _), port in zip(commands, ours):
             port = port.split(" => ", 1)[1]
             by_words = counted.put(command, without(port))
             rust = normal(next(theirs)) if cause is None else None
@@ -166,9 +204,11 @@ def main():
             counts["calls"] += 1
             if cause is not None:
                 counts["refused"] += 1
+                counts["refused_sets"] += kind == "V"
                 fine = port == f"! {cause}" if kind == "N" else port_state(normal(port)) == f"! {cause} {before}"
             else:
                 counts[names.get(kind, "dumps")] += 1
+                counts["sets"] += kind == "V"
                 near = port.endswith(" n")
                 state = port_state(normal(port[:-2] if near else port))
                 if rust.startswith("P"):

@@ -24,16 +24,18 @@ IVC = "crates/input_volume_controller/specs/"
 LIBRARY = "crates/agc2/specs/"
 MARKED = "reply = mark (differ clipped (c .control) (e .low) (e .high));"
 RECOMMENDED = "reply = volume (pos (processChannels probability level (c .control) .volume));"
+APPLIED = "withAppliedInputVolumes volumes c = aggregated (withApplied (Volume (lowestOf volumes)) (withChannels (eachGiven volumes (c .channels)) c))"
+CONTROLLING = "(aggregateOf (c .channels) .channel) c"
 
 # What is wrong, the claim that is false of it, and for each file the text that is replaced and what replaces it. More claims may fall, since a proof may use more than its claim says:
 # the one that is named is false, by a case that the claim covers.
 EDITS = [
     # ---- document 01, "Shams shut out, and by what"
     ("all refused", "RefusedCalls", [
-        (IVC + "Calls.antt", "Frame.{analyzeInputAudio}", "Frame.{analyzeInputAudio, refusedWith}"),
+        (IVC + "Calls.antt", "Frame.{unlessRefused, analyzeInputAudio}", "Frame.{unlessRefused, analyzeInputAudio, refusedWith}"),
         (IVC + "Calls.antt", "use Rattle.numbers.specs.declared.refusal.Refusal.{Refusal}\n",
          "use Rattle.numbers.specs.declared.refusal.Refusal.{Refusal}\nuse Rattle.numbers.specs.declared.refusal.Refusal.the-variants.{FrameSize}\n"),
-        (IVC + "Calls.antt", "step c (frame volume samples lent) = analyzeInputAudio volume samples lent c", "step c (frame volume samples lent) = refusedWith FrameSize c")]),
+        (IVC + "Calls.antt", "step c (frame volumes samples lent) = analyzeInputAudio volumes samples lent c", "step c (frame volumes samples lent) = refusedWith FrameSize c")]),
     ("one fixed volume, of the volume step", "StarredCases", [
         (GAIN + "VolumeUpdate.antt", "reached true volume = Volume (pos volume)", "reached true volume = Volume (pos 116)")]),
     # the highest volume is in every bound; so is an echo that is raised to the minimum
@@ -75,7 +77,7 @@ EDITS = [
          "state = record { control = withApplied Nothing (aggregated (c .control)); predictor = c .predictor } }")]),
     # then no record of before the initialise is left, with capture switched off in the list or not, and `capture-needed` is false
     ("predictor emptied at initialise", "PartsAreNeeded", [
-        (IVC + "Calls.antt", "use Rattle.clipping_predictor.specs.Predictor.{Predictor}", "use Rattle.clipping_predictor.specs.Predictor.{Predictor, emptied}"),
+        (IVC + "Calls.antt", "use Rattle.clipping_predictor.specs.Predictor.{Predictor, frameFits}", "use Rattle.clipping_predictor.specs.Predictor.{Predictor, frameFits, emptied}"),
         (IVC + "Calls.antt", "state = record { control = initialize (c .control); predictor = c .predictor } }",
          "state = record { control = initialize (c .control); predictor = emptied (c .predictor) } }")]),
     # ---- document 02 (ii)
@@ -119,10 +121,9 @@ EDITS = [
          "eachCalled call channels = take 1 (map (called call) channels) ++ (take 1 (drop 1 channels) ++ drop 2 (map (called call) channels))")]),
     ("the estimate is asked with the controller's volume before the frame", "DependsOnOne", [
         (IVC + "Frame.antt", "analyzeInputAudio = frameBy predictedBy",
-         "analyzeInputAudio volume samples lent c = frameBy (λ (a : Asked). predictedBy (record { level = c .control .volume; step = a .step; least = a .least; most = a .most })) volume samples lent c")]),
-    ("the controller's volume is not taken with a frame's volume, so that the estimate reads the old one", "DependsOnOne", [
-        (IVC + "ControlCalls.antt", "withAppliedInputVolume volume c = aggregated (withApplied (Volume volume) (eachChannel (StreamAnalogLevel volume) c))",
-         "withAppliedInputVolume volume c = withApplied (Volume volume) (eachChannel (StreamAnalogLevel volume) c)")]),
+         "analyzeInputAudio volumes samples lent c = frameBy (λ (a : Asked). predictedBy (record { level = c .control .volume; step = a .step; least = a .least; most = a .most })) volumes samples lent c")]),
+    ("the controller's volume is not taken with a frame's volumes, so that the estimate reads the old one", "DependsOnOne", [
+        (IVC + "ControlCalls.antt", APPLIED, APPLIED.replace("aggregated (withApplied (Volume (lowestOf volumes)) (withChannels (eachGiven volumes (c .channels)) c))", "withApplied (Volume (lowestOf volumes)) (withChannels (eachGiven volumes (c .channels)) c)"))]),
     ("a recommendation with capture off repeats the controller's volume", "DependsOnOne", [
         (IVC + "Recommendation.antt", "recommendIf false applied probability level c = record { reply = volume (pos applied);",
          "recommendIf false applied probability level c = record { reply = volume (pos (c .control .volume));")]),
@@ -143,8 +144,8 @@ EDITS = [
         (IVC + "ControlCalls.antt", "aggregated (withSince 0 (eachChannel (Clipping step) c))", "aggregated (eachChannel (Clipping step) c)")]),
     ("the minimum is not applied", "Bounds", [
         (IVC + "ControlCalls.antt", "raisedFor (Volume (suc n)) least volume = max volume least", "raisedFor (Volume (suc n)) least volume = volume")]),
-    ("a frame that does not fit applies its volume", "RefusedCalls", [
-        (IVC + "Frame.antt", "(Number volume) false samples lent c = refusedWith FrameSize c", "(Number volume) false samples lent c = refusedWith FrameSize (withVolumeApplied volume c)")]),
+    ("a frame that does not fit applies its volumes", "RefusedCalls", [
+        (IVC + "Frame.antt", "(numberSet volumes) false samples lent c = refusedWith FrameSize c", "(numberSet volumes) false samples lent c = refusedWith FrameSize (withVolumesApplied volumes c)")]),
     ("a recommendation with capture on leaves the volume pending", "NoneExactly", [
         (IVC + "Recommendation.antt", "control = withApplied Nothing (processChannels probability level (c .control))", "control = processChannels probability level (c .control)")]),
     ("the last channel controls", "EqualChannels", [
@@ -218,6 +219,26 @@ EDITS = [
          "carried level (l ∷ ls) = record { average = level .average; max = level .max; clipped = level .clipped + l .clipped }\n\n"
          "abbrev pub push : ℕ → Level → List Level → List Level\n"),
         (RING + "Ring.antt", "push capacity level records = take capacity (level ∷ records)", "push capacity level records = take capacity (carried level records ∷ records)")]),
+    # ---- document 02 (xiv)
+    ("every channel gets the lowest volume of the set", "EachTakesItsOwn", [
+        (IVC + "ControlCalls.antt", "{Initialize, CaptureOutputUsed, Clipping, Process}", "{Initialize, CaptureOutputUsed, StreamAnalogLevel, Clipping, Process}"),
+        (IVC + "ControlCalls.antt", APPLIED, "withAppliedInputVolumes volumes c = aggregated (withApplied (Volume (lowestOf volumes)) (eachChannel (StreamAnalogLevel (lowestOf volumes)) c))")]),
+    ("the first volume of a set is the applied one", "LowestIsApplied", [
+        (IVC + "Volumes.antt", "lowestOf (volume ∷ volumes) = lowestFrom volume volumes", "lowestOf (volume ∷ volumes) = volume")]),
+    # of 15 and 10 with a minimum of 20 both are 20 then, and the first of them is channel 0
+    ("the controlling channel is looked for after the minimum", "ControllingIsLowest", [
+        (IVC + "ControlCalls.antt", "use mathlib.Core.List.{List}", "use mathlib.Core.List.{List, map}"),
+        (IVC + "ControlCalls.antt", CONTROLLING,
+         "(aggregateOf (map (λ m. record { least = m .least; floor = m .floor; ceiling = m .ceiling; last = m .last; used = m .used; check = m .check; startup = m .startup; "
+         "volume = raisedFor (c .applied) (c .settings .least) (m .volume); wait = m .wait; frames = m .frames; speech = m .speech; first = m .first; probability = m .probability; ratio = m .ratio }) "
+         "(c .channels)) .channel) c")]),
+    ("8 is tested before 20", "RefusedCalls", [
+        (IVC + "Frame.antt", "unlessRefusedBy false volumes fits samples lent c = refusedWith VolumeCount c", "unlessRefusedBy counted outsideSet fits samples lent c = refusedWith InputVolume c"),
+        (IVC + "Frame.antt", "unlessRefusedBy true outsideSet fits samples lent c = refusedWith InputVolume c", "unlessRefusedBy false (numberSet volumes) fits samples lent c = refusedWith VolumeCount c")]),
+    ("the volumes before a bad one are taken", "RefusedCalls", [
+        (IVC + "Volumes.antt", "andVolume (Number volume) outsideSet = outsideSet", "andVolume (Number volume) outsideSet = numberSet (volume ∷ [])")]),
+    ("the first volume of a set is the first channel's, and the others are nobody's", "OneVolume", [
+        (IVC + "Channels.antt", "called (StreamAnalogLevel volume) m ∷ eachGiven volumes ms", "called (StreamAnalogLevel volume) m ∷ ms")]),
 ]
 
 

@@ -4,7 +4,8 @@
 usage: one_channel.py PROGRAM [SETTINGS [SEED [WITHOUT]]]
 
 PROGRAM is the driver over the unchanged Rust (`probe` of rust/) or the program of crates/replay. For each of so many settings, of one to eight channels, 80 controllers get short pasts of their own,
-drawn from few calls, so that many come to the same place; with `replay` refused frames are among them. After every call all channels must be equal and channel 0 must control. Two controllers that
+drawn from few calls, so that many come to the same place; with `replay` refused frames are among them, and half of the frames are sets of equal volumes, where every set with volumes that differ is
+refused (document 02 (xiv)). After every call all channels must be equal and channel 0 must control. Two controllers that
 agree in a channel's state, all records of the rings, the count since clipping and the pending volume then get the same calls, and must reply alike, whatever their volumes. Prints what was
 compared, and in how many pairs the volumes differed; exits with 1 if a channel differed or a pair was told apart. WITHOUT is a letter of PLACE, a part that the two need not agree in: pairs that are
 told apart are then to be expected, and none is a fault.
@@ -14,7 +15,7 @@ import os
 import random
 import sys
 
-from calls import normal, port_state, run, settings
+from calls import as_set, normal, port_state, run, settings
 from two_pasts import calls
 
 PASTS = 80
@@ -25,6 +26,13 @@ PLACE = "mrka"  # a channel's state, the rings, the count since clipping, the pe
 REFUSED = ["B 256 1 00000000", "B 5 0 ", "B -1 0 "]
 
 
+def refused(rnd, channels):
+    """A frame that is refused: with one volume, or with a set whose volumes differ, too many, with a bad one among them, or without samples."""
+    volumes = rnd.sample(range(256), channels)
+    sets = [[1, channels + 1, *volumes, 7], [1, channels, *volumes[1:], 256], [0, channels, *volumes]]
+    return rnd.choice(REFUSED + [" ".join(map(str, ["V", *fields, "00000000" * channels])) for fields in sets])
+
+
 def past(rnd, channels, port):
     """A few calls, in whose frames all channels hear the same or not; an initialise, once or twice, leaves the controller's volume raised or not."""
     out = []
@@ -32,9 +40,11 @@ def past(rnd, channels, port):
         kind = rnd.random()
         if kind < 0.5:
             heard = rnd.choices(SAMPLES, k=channels) if rnd.random() < 0.3 else [rnd.choice(SAMPLES)] * channels
-            out.append(f"A {rnd.choice(VOLUMES)} " + "".join(heard))
+            volume = rnd.choice(VOLUMES)
+            call = f"A {volume} " + "".join(heard)
+            out.append(as_set(call, channels, [volume] * channels) if port and rnd.random() < 0.5 else call)
         elif port and kind < 0.55:
-            out.append(rnd.choice(REFUSED))
+            out.append(refused(rnd, channels))
         else:
             out.append(rnd.choice(["I", "C 0", "C 1", "R 00000000 -"]))
     return out + ["I"] * rnd.choice([0, 0, 1, 2])

@@ -1,19 +1,20 @@
 #!/usr/bin/env python3
 """Searches for two pasts that can be told apart: two controllers with equal settings, each with a past of its own, get the same lead-in and then the same calls.
 
-usage: two_pasts.py PROGRAM [PAIRS [SEED [FEWER [modes]]]]
+usage: two_pasts.py PROGRAM [PAIRS [SEED [FEWER [WORDS]]]]
 
 PROGRAM is the driver over the unchanged Rust (`probe` of rust/) or the program of crates/replay. The lead-in is that of document 01: capture switched on; as many quiet frames as it asks for,
 with recommendations and initialises between them; an initialise; a quiet frame with a positive volume and its recommendation. With FEWER there are so many quiet frames less, and pairs that are told
-apart are to be expected. With `modes`, for the program of crates/replay alone, each pair has a predictor of its own, of any mode, on or off, and the lead-in is that of document 02 (iv). The port's
-records have their counts of clipped samples, which are compared too (document 02 (xi)). Prints how many calls after the lead-in were compared, and how many pairs were told apart, with `modes` of each
-mode; without FEWER exits with 1 if there is one.
+apart are to be expected. The port's records have their counts of clipped samples, which are compared too (document 02 (xi)). WORDS are for the program of crates/replay alone. With `modes` each pair
+has a predictor of its own, of any mode, on or off, and the lead-in is that of document 02 (iv). With `sets` most frames, in the pasts, in the lead-in and after it, have a volume for each channel
+(document 02 (xiv)), and the closing quiet frame has positive volumes that differ. With `zero` as well one of these is 0, where there are several channels, and pairs that are told apart are to be
+expected. Prints how many calls after the lead-in were compared, and how many pairs were told apart, with `modes` of each mode; exits with 1 if there is one that is not to be expected.
 """
 import random
 import struct
 import sys
 
-from calls import bits, frame, normal, run, settings
+from calls import as_set, bits, frame, normal, run, settings
 
 WAIT = 5  # the place of clipped_wait_frames in the command N
 
@@ -91,7 +92,22 @@ def lead_in(rnd, channels, frames, predictor):
     return out + ["I", quiet(rnd, channels, rnd.randint(1, 255), predictor), recommendation(rnd)]
 
 
-def pair(rnd, fewer, predictor):
+def spread(rnd, channels, commands):
+    """Most frames with a volume for each channel."""
+    def drawn():
+        return [rnd.randint(0, 255) for _ in range(channels)]
+    return [as_set(c, channels, drawn()) if c[0] == "A" and rnd.random() < 0.7 else c for c in commands]
+
+
+def closing(rnd, channels, command, zero):
+    """The closing quiet frame with positive volumes that differ; or one of several is 0."""
+    volumes = rnd.sample(range(1, 256), channels)
+    if zero and channels > 1:
+        volumes[rnd.randrange(channels)] = 0
+    return as_set(command, channels, volumes)
+
+
+def pair(rnd, fewer, predictor, words):
     """The commands of a pair, and how many of the last of each half are compared."""
     channels, made = settings(rnd)
     made[4] = rnd.choice(["3dcccccd", "00000000", "3f000000"])  # a clipped ratio of zero or more
@@ -99,8 +115,12 @@ def pair(rnd, fewer, predictor):
     before = lead_in(rnd, channels, predictor.frames(made[WAIT]) - fewer, predictor)
     after = [c for call in calls(rnd, channels, 30) for c in ([call, "D"] if rnd.random() < 0.3 else [call])]
     making = " ".join(map(str, [predictor.command, *made, *predictor.fields]))
-    halves = [[making] + calls(rnd, channels, rnd.choice([0, 3, 20, 60])) + before + after for _ in range(2)]
-    return halves, len(after)
+    pasts = [calls(rnd, channels, rnd.choice([0, 3, 20, 60])) for _ in range(2)]
+    if "sets" in words:
+        *body, last, heard = before
+        before = spread(rnd, channels, body) + [closing(rnd, channels, last, "zero" in words), heard]
+        after, pasts = spread(rnd, channels, after), [spread(rnd, channels, past) for past in pasts]
+    return [[making] + past + before + after for past in pasts], len(after)
 
 
 def answer(line):
@@ -114,20 +134,20 @@ def answer(line):
 def main():
     program = sys.argv[1]
     pairs, seed, fewer = (int(x) for x in (sys.argv[2:5] + ["2000", "7", "0"][len(sys.argv) - 2:])[:3])
-    modes = sys.argv[5:] == ["modes"]
+    words = sys.argv[5:]
     rnd = random.Random(seed)
     compared, apart, of_mode = 0, [0] * 3, [0] * 3
     for _ in range(pairs):
-        predictor = Any(rnd) if modes else Base()
-        halves, count = pair(rnd, fewer, predictor)
+        predictor = Any(rnd) if "modes" in words else Base()
+        halves, count = pair(rnd, fewer, predictor, words)
         answers = [[answer(normal(line)) for line in run(program, half)[-count:]] for half in halves]
         assert len(answers[0]) == len(answers[1]) == count
         compared += count
         of_mode[predictor.mode] += 1
         apart[predictor.mode] += answers[0] != answers[1]
-    each = "".join(f", {name} {told} of {count}" for name, told, count in zip(("event", "adaptive", "fixed"), apart, of_mode)) if modes else ""
+    each = "".join(f", {name} {told} of {count}" for name, told, count in zip(("event", "adaptive", "fixed"), apart, of_mode)) if "modes" in words else ""
     print(f"pairs {pairs}, calls compared {compared}, told apart {sum(apart)}{each}")
-    sys.exit(sum(apart) != 0 and fewer == 0)
+    sys.exit(sum(apart) != 0 and fewer == 0 and "zero" not in words)
 
 
 if __name__ == "__main__":

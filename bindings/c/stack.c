@@ -17,7 +17,7 @@ static agc2_controller controller;
 static agc2_config config;
 static agc2_predictor_config predictor;
 static float samples[AGC2_MAX_CHANNELS * AGC2_MAX_SAMPLES_PER_CHANNEL];
-static int32_t channels, volume, recommended;
+static int32_t channels, volume, volumes[AGC2_MAX_CHANNELS], recommended;
 static size_t samples_per_channel;
 static float level;
 static volatile uint32_t sink;
@@ -30,6 +30,10 @@ __attribute__((noinline)) static void made_with(void) { sink = agc2_new_with_pre
 
 __attribute__((noinline)) static void framed(void) {
     sink = agc2_analyze_input_audio(&controller, volume, samples_per_channel, samples, (size_t)channels * AGC2_MAX_SAMPLES_PER_CHANNEL);
+}
+
+__attribute__((noinline)) static void framed_each(void) {
+    sink = agc2_analyze_input_audio_each(&controller, volumes, (size_t)channels, samples_per_channel, samples, (size_t)channels * AGC2_MAX_SAMPLES_PER_CHANNEL);
 }
 
 __attribute__((noinline)) static void recommend(void) { sink = agc2_recommend_input_volume(&controller, 1.0f, &level, &recommended); }
@@ -72,7 +76,7 @@ static void most(long *seen, call f) {
 
 /* ---- random calls */
 
-enum { NEW, NEW_WITH, FRAME, RECOMMEND, INITIALIZE, SWITCH, STORED, METRICS, CALLS };
+enum { NEW, NEW_WITH, FRAME, FRAME_EACH, RECOMMEND, INITIALIZE, SWITCH, STORED, METRICS, CALLS };
 
 static void settings(void) {
     channels = 1 + rand() % AGC2_MAX_CHANNELS;
@@ -95,13 +99,16 @@ static void sound(void) {
         samples[i] = i % apart != 0 ? (float)(rand() % 200) : peak;
     }
     volume = rand() % 10 != 0 ? 200 : rand() % 257;
+    for (int i = 0; i < AGC2_MAX_CHANNELS; i++) {
+        volumes[i] = rand() % 20 != 0 ? rand() % 256 : 256;
+    }
     samples_per_channel = rand() % 10 != 0 ? 480 : 479;
     level = (float)(rand() % 90) - 80.0f;
 }
 
 int main(void) {
-    static const char *const names[CALLS] = {"agc2_new", "agc2_new_with_predictor", "a frame", "a recommendation", "initialise", "the capture switch", "agc2_stored_record", "agc2_compute_partial_metrics"};
-    static const long bounds[CALLS] = {14200, 14200, 22000, 1900, 1900, 1900, 14200, 14200};
+    static const char *const names[CALLS] = {"agc2_new", "agc2_new_with_predictor", "a frame", "a frame with a set", "a recommendation", "initialise", "the capture switch", "agc2_stored_record", "agc2_compute_partial_metrics"};
+    static const long bounds[CALLS] = {14200, 14200, 22100, 22100, 1900, 1900, 1900, 14200, 14200};
     long seen[CALLS] = {0};
     stack = aligned_alloc(4096, SIZE);
     srand(7);
@@ -112,6 +119,7 @@ int main(void) {
         for (int n = 0; n < 40; n++) {
             sound();
             most(&seen[FRAME], framed);
+            most(&seen[FRAME_EACH], framed_each);
             most(&seen[RECOMMEND], recommend);
         }
         most(&seen[INITIALIZE], initialized);

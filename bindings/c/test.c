@@ -98,6 +98,16 @@ static void sizes_are_those_the_archive_writes(void) {
     agc2_analyze_input_audio_into((agc2_controller *)(void *)ones, 100, 1, frame, 8);
     CHECK(written() == sizeof(agc2_controller));
 
+    static const int32_t volumes[8] = {100, 90, 80, 70, 60, 50, 40, 30};
+    before_writing();
+    memcpy(zeros, &c, sizeof c);
+    memcpy(ones, &c, sizeof c);
+    fill_stack(0);
+    agc2_analyze_input_audio_each_into((agc2_controller *)(void *)zeros, volumes, 8, 1, frame, 8);
+    fill_stack(255);
+    agc2_analyze_input_audio_each_into((agc2_controller *)(void *)ones, volumes, 8, 1, frame, 8);
+    CHECK(written() == sizeof(agc2_controller));
+
     initializes initialize = (initializes)(void (*)(void))agc2_initialize_by_value;
     before_writing();
     fill_stack(0);
@@ -131,6 +141,27 @@ static uint32_t below(uint32_t *seed, uint32_t limit) {
     return (*seed >> 8) % limit;
 }
 
+/* A frame with a set of volumes; one in three is refused, with 20, 8 or 9. */
+static uint32_t any_set(agc2_controller *c, size_t channels, size_t samples, const float *frame, uint32_t seed) {
+    int32_t volumes[9];
+    size_t volume_count = channels, count = channels * samples;
+    for (int i = 0; i < 9; i++) {
+        volumes[i] = (int32_t)below(&seed, 256);
+    }
+    switch (below(&seed, 9)) {
+    case 0:
+        volume_count = below(&seed, 2) ? channels + 1 : channels - 1;
+        break;
+    case 1:
+        volumes[below(&seed, (uint32_t)channels)] = below(&seed, 2) ? -1 : 256;
+        break;
+    case 2:
+        count--;
+        break;
+    }
+    return agc2_analyze_input_audio_each(c, volumes, volume_count, samples, frame, count);
+}
+
 /* One call of many kinds, the same for equal seeds. Its answer. */
 static uint32_t any_call(agc2_controller *c, int32_t channels, uint32_t seed) {
     static float frame[8 * 480];
@@ -141,7 +172,12 @@ static uint32_t any_call(agc2_controller *c, int32_t channels, uint32_t seed) {
     for (size_t i = 0; i < count; i++) {
         frame[i] = loud * ((float)below(&seed, 2001) / 1000.0f - 1.0f);
     }
-    switch (below(&seed, 16)) {
+    switch (below(&seed, 20)) {
+    case 16:
+    case 17:
+    case 18:
+    case 19:
+        return any_set(c, (size_t)channels, samples, frame, seed);
     case 0:
         return agc2_analyze_input_audio(c, below(&seed, 2) ? -1 : 256, samples, frame, count);
     case 1:
@@ -164,11 +200,15 @@ static uint32_t any_call(agc2_controller *c, int32_t channels, uint32_t seed) {
     }
 }
 
-/* A refused frame changes no byte of the state. The four words in front of it are its answer, 8 or 9 and not near, and no volume, since no recommendation came after it. */
+static int is_refused_frame(uint32_t answer) {
+    return answer == AGC2_INPUT_VOLUME || answer == AGC2_FRAME_SIZE || answer == AGC2_VOLUME_COUNT;
+}
+
+/* A refused frame changes no byte of the state. The four words in front of it are its answer, 20, 8 or 9 and not near, and no volume, since no recommendation came after it. */
 static void refused_frame_keeps_the_state(const agc2_controller *before, const agc2_controller *after) {
     CHECK(memcmp(&before->control.state, &after->control.state, sizeof before->control.state) == 0);
     CHECK(memcmp(&before->predictor, &after->predictor, sizeof before->predictor) == 0);
-    CHECK((after->refusal == AGC2_INPUT_VOLUME || after->refusal == AGC2_FRAME_SIZE) && after->near == 0);
+    CHECK(is_refused_frame(after->refusal) && after->near == 0);
     CHECK(after->control.present == 0 && after->control.volume == 0);
 }
 
@@ -196,13 +236,40 @@ static void equal_histories_have_equal_bytes(void) {
             fill_stack(0xcc);
             CHECK(any_call(&other, channels, seed) == answer);
             CHECK(memcmp(&one, &other, sizeof one) == 0);
-            if (answer == AGC2_INPUT_VOLUME || answer == AGC2_FRAME_SIZE) {
+            if (is_refused_frame(answer)) {
                 refused_frame_keeps_the_state(&before, &one);
                 refused++;
             }
         }
     }
     CHECK(refused > 100);
+}
+
+/* A set of equal volumes is the one volume: equal in all bytes after every call, refused frames among them. */
+static void equal_volumes_are_one(void) {
+    static agc2_controller one, each;
+    static float frame[8 * 8];
+    uint32_t seed = 7;
+    for (int32_t channels = 1; channels <= 8; channels++) {
+        agc2_config d = agc2_default_config();
+        d.clipped_wait_frames = channels;
+        CHECK(agc2_new(&one, channels, d) == 0 && agc2_new(&each, channels, d) == 0);
+        for (int k = 0; k < 500; k++) {
+            int32_t volume = (int32_t)below(&seed, 260) - 2, volumes[8], recommended;
+            size_t samples = below(&seed, 9), count = (size_t)channels * samples;
+            float loud = below(&seed, 3) ? 29000.0f : 33000.0f, level = (float)below(&seed, 90) - 90.0f;
+            for (int i = 0; i < 8; i++) {
+                volumes[i] = volume;
+            }
+            for (size_t i = 0; i < count; i++) {
+                frame[i] = below(&seed, 4) ? (float)below(&seed, 500) : loud;
+            }
+            CHECK(agc2_analyze_input_audio(&one, volume, samples, frame, count) == agc2_analyze_input_audio_each(&each, volumes, (size_t)channels, samples, frame, count));
+            CHECK(memcmp(&one, &each, sizeof one) == 0);
+            agc2_recommend_input_volume(&one, 0.9f, &level, &recommended);
+            agc2_recommend_input_volume(&each, 0.9f, &level, &recommended);
+        }
+    }
 }
 
 /* ---- the calls */
@@ -279,6 +346,56 @@ static void refusals(void) {
     CHECK(agc2_stored_record(&c, 0, 1).present == 0);
     CHECK(agc2_recommend_input_volume(&c, 0.0f, NULL, &volume) == 1 && volume == 200);
     CHECK(agc2_analyze_input_audio(&c, 255, 480, frame, 960) == AGC2_ACCEPTED);
+}
+
+/* With capture on or off, what is recommended after a silent frame with these volumes, and the controller's volume before that. A first frame ends the startup, in which a muted channel is raised. */
+static void two_volumes(uint32_t capture, int32_t first, int32_t second, int32_t recommended, int32_t controllers) {
+    static const float silent[2] = {0};
+    int32_t volumes[2] = {first, second}, volume = -1;
+    agc2_controller c;
+    CHECK(agc2_new(&c, 2, agc2_default_config()) == 0);
+    CHECK(agc2_analyze_input_audio(&c, 100, 1, silent, 2) == AGC2_ACCEPTED && agc2_recommend_input_volume(&c, 0.0f, NULL, &volume) == 1 && volume == 100);
+    agc2_handle_capture_output_used_change(&c, capture);
+    CHECK(agc2_analyze_input_audio_each(&c, volumes, 2, 1, silent, 2) == AGC2_ACCEPTED);
+    CHECK(agc2_recommended_input_volume(&c) == controllers);
+    CHECK(agc2_recommend_input_volume(&c, 0.0f, NULL, &volume) == 1 && volume == recommended);
+}
+
+/* min_input_volume is 20. The lowest volume is pending: it is raised only if it is above 0, so 0 and 200 raise nothing; with capture off it is repeated as it was given. */
+static void lowest_volume(void) {
+    two_volumes(1, 120, 90, 90, 90);
+    two_volumes(1, 90, 120, 90, 90);
+    two_volumes(1, 15, 10, 20, 20);
+    two_volumes(1, 15, 200, 20, 20);
+    two_volumes(1, 0, 200, 0, 0);
+    two_volumes(1, 200, 0, 0, 0);
+    two_volumes(0, 15, 10, 10, 20);
+    two_volumes(0, 0, 200, 0, 0);
+}
+
+/* 20 comes before 8, and 8 before 9, whatever else is wrong; each leaves every byte of the state. */
+static void set_refusals(void) {
+    static const float frame[3] = {0};
+    static const int32_t good[3] = {100, 200, 50}, bad[3] = {100, 300, 50};
+    static const struct {
+        const int32_t *volumes;
+        size_t volume_count, samples, count;
+        uint32_t refusal;
+    } cases[9] = {
+        {good, 1, 1, 2, AGC2_VOLUME_COUNT}, {good, 3, 1, 2, AGC2_VOLUME_COUNT}, {good, 0, 1, 2, AGC2_VOLUME_COUNT}, {bad, 3, 1, 2, AGC2_VOLUME_COUNT}, {bad, 3, 0, 3, AGC2_VOLUME_COUNT},
+        {bad, 2, 1, 2, AGC2_INPUT_VOLUME},  {bad, 2, 1, 3, AGC2_INPUT_VOLUME},  {good, 2, 1, 3, AGC2_FRAME_SIZE},   {good, 2, 0, 0, AGC2_FRAME_SIZE},
+    };
+    agc2_controller c, before;
+    int32_t volume = -1;
+    CHECK(agc2_new(&c, 2, agc2_default_config()) == 0);
+    CHECK(agc2_analyze_input_audio_each(&c, good, 2, 1, frame, 2) == AGC2_ACCEPTED);
+    for (int i = 0; i < 9; i++) {
+        memcpy(&before, &c, sizeof c);
+        CHECK(agc2_analyze_input_audio_each(&c, cases[i].volumes, cases[i].volume_count, cases[i].samples, frame, cases[i].count) == cases[i].refusal);
+        refused_frame_keeps_the_state(&before, &c);
+    }
+    CHECK(agc2_recommend_input_volume(&c, 0.0f, NULL, &volume) == 1 && volume == 100);
+    CHECK(strcmp(agc2_words(AGC2_VOLUME_COUNT), "volumes not as many as the channels") == 0);
 }
 
 /* agc2_new is the making with the default predictor, byte for byte. */
@@ -511,10 +628,13 @@ int main(void) {
     sizes_are_those_the_archive_states();
     sizes_are_those_the_archive_writes();
     equal_histories_have_equal_bytes();
+    equal_volumes_are_one();
     default_settings();
     the_example();
     marks();
     refusals();
+    lowest_volume();
+    set_refusals();
     default_predictor();
     modes();
     predictor_refusals();

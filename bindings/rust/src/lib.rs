@@ -168,6 +168,31 @@ impl InputVolumeController {
     pub fn analyze_input_audio(&mut self, applied_input_volume: i32, samples_per_channel: usize, samples: &[f32]) -> Result<Accepted, Refusal> {
         // SAFETY: the state is one that the library handed out, and the pointer and the length are the slice's, which is not ours.
         unsafe { raw::agc2_analyze_input_audio_into(&mut self.raw, applied_input_volume, samples_per_channel, samples.as_ptr(), samples.len()) };
+        self.framed()
+    }
+
+    /// The same where each microphone has a volume of its own: one for each channel in their order, taken whole or not at all. The lowest is the volume that is applied, which a
+    /// recommendation with capture off repeats, and with capture on the recommendation is the lowest of the channels. Only if every volume is above 0 it is raised to
+    /// [`Config::min_input_volume`]. Equal volumes are [`InputVolumeController::analyze_input_audio`]. Refuses with cause 20 if they are not as many as the channels, then with 8 if any is
+    /// not 0 to 255, then with 9.
+    ///
+    /// ```
+    /// use agc2::{Config, InputVolumeController, Refusal};
+    ///
+    /// let mut controller = InputVolumeController::new(2, Config::default())?;
+    /// controller.analyze_input_audio_each(&[120, 90], 1, &[0.0, 0.0])?;
+    /// assert_eq!(controller.recommend_input_volume(0.0, None), Some(90));
+    /// assert_eq!(controller.analyze_input_audio_each(&[120], 1, &[0.0, 0.0]), Err(Refusal::VolumeCount));
+    /// # Ok::<(), Refusal>(())
+    /// ```
+    pub fn analyze_input_audio_each(&mut self, volumes: &[i32], samples_per_channel: usize, samples: &[f32]) -> Result<Accepted, Refusal> {
+        // SAFETY: the state is one that the library handed out, and the pointers and the lengths are the slices', which are not ours.
+        unsafe { raw::agc2_analyze_input_audio_each_into(&mut self.raw, volumes.as_ptr(), volumes.len(), samples_per_channel, samples.as_ptr(), samples.len()) };
+        self.framed()
+    }
+
+    /// What the last frame answered.
+    fn framed(&self) -> Result<Accepted, Refusal> {
         Refusal::check(self.raw.refusal)?;
         Ok(Accepted { near: self.raw.near != 0 })
     }

@@ -142,6 +142,63 @@ fn a_refused_frame_changes_nothing() {
     assert_eq!(c.recommend_input_volume(0.0, None), Some(200));
 }
 
+/// What a controller of two channels recommends after a silent frame with these volumes. A first frame ends the startup, in which a muted channel is raised.
+fn after_two_volumes(capture: bool, volumes: [i32; 2]) -> Option<i32> {
+    let mut c = made(2);
+    c.analyze_input_audio(100, 1, &[0.0, 0.0]).unwrap();
+    assert_eq!(c.recommend_input_volume(0.0, None), Some(100));
+    c.handle_capture_output_used_change(capture);
+    c.analyze_input_audio_each(&volumes, 1, &[0.0, 0.0]).unwrap();
+    c.recommend_input_volume(0.0, None)
+}
+
+/// The lowest volume is pending, and is raised to 20 only if it is above 0; with capture off it is repeated as it was given.
+#[test]
+fn the_lowest_volume_is_applied() {
+    for (volumes, recommended) in [([120, 90], 90), ([90, 120], 90), ([15, 10], 20), ([15, 200], 20), ([0, 200], 0), ([200, 0], 0)] {
+        assert_eq!(after_two_volumes(true, volumes), Some(recommended), "{volumes:?}");
+    }
+    assert_eq!(after_two_volumes(false, [15, 10]), Some(10));
+}
+
+/// 20 comes before 8, and 8 before 9, whatever else is wrong.
+#[test]
+fn a_refused_set_changes_nothing() {
+    let mut c = made(2);
+    c.analyze_input_audio_each(&[100, 200], 1, &[0.0, 0.0]).unwrap();
+    let refusals: [(&[i32], usize, &[f32], Refusal); 9] = [
+        (&[100], 1, &[0.0; 2], Refusal::VolumeCount),
+        (&[100, 200, 50], 1, &[0.0; 2], Refusal::VolumeCount),
+        (&[], 1, &[0.0; 2], Refusal::VolumeCount),
+        (&[100, 300, 50], 1, &[0.0; 2], Refusal::VolumeCount),
+        (&[300; 40], 0, &[0.0; 3], Refusal::VolumeCount),
+        (&[100, 300], 1, &[0.0; 2], Refusal::InputVolume),
+        (&[-1, 200], 1, &[0.0; 3], Refusal::InputVolume),
+        (&[100, 200], 1, &[0.0; 3], Refusal::FrameSize),
+        (&[100, 200], 0, &[], Refusal::FrameSize),
+    ];
+    for (volumes, samples, frame, refusal) in refusals {
+        assert_eq!(c.analyze_input_audio_each(volumes, samples, frame), Err(refusal), "{volumes:?}");
+        assert!(c.stored_record(0, 1).is_none());
+    }
+    assert_eq!(c.recommend_input_volume(0.0, None), Some(100));
+    assert_eq!((Refusal::VolumeCount.number(), Refusal::VolumeCount.to_string().as_str()), (20, "volumes not as many as the channels"));
+}
+
+#[test]
+fn a_set_of_equal_volumes_is_the_one_volume() {
+    for channels in 1..=MAX_CHANNELS {
+        let (mut one, mut each) = (made(channels as i32), made(channels as i32));
+        for k in 0..300 {
+            let (volume, sample) = (k * 37 % 256, [0.0, 29300.0, 32767.0][k as usize % 3]);
+            let frame = vec![sample; 2 * channels];
+            assert_eq!(one.analyze_input_audio(volume, 2, &frame), each.analyze_input_audio_each(&vec![volume; channels], 2, &frame));
+            assert_eq!(one.recommend_input_volume(0.9, Some(-40.0)), each.recommend_input_volume(0.9, Some(-40.0)));
+            assert_eq!(one.stored_record(channels - 1, 0), each.stored_record(channels - 1, 0));
+        }
+    }
+}
+
 #[test]
 fn every_channel_count_and_every_sample_is_taken() {
     for channels in 1..=MAX_CHANNELS {

@@ -28,7 +28,7 @@ use Rattle.agc2.specs.declared.answers.VolumeNumbers.{VolumeNumbers}
 use Rattle.agc2.specs.declared.answers.Agc2Controller.{Agc2Controller}
 use Rattle.agc2.specs.Whole.{wholeOf, besideOf}
 use Rattle.agc2.specs.Answers.{outcomeNumber, frameNumbers, volumeNumbers}
-use Rattle.agc2.specs.Calls.{CreatedAs, AnalyzedOf, RecommendedAs}
+use Rattle.agc2.specs.Calls.{CreatedAs, AnalyzedEachOf, RecommendedAs}
 
 pub back : (n m : ℕ) (d : InputVolumeController) → wholeOf (besideOf n m d) ≡ d
 back n m d = λ i. together (control-again (d .control) i) (predictor-again (d .predictor) i)
@@ -67,11 +67,11 @@ refused-same : (a : Analysis) {n : ℕ} {X : Type 0} → analysisSays a ≡ refu
 refused-same (Analysis.Accepted near) e f = not-accepted e
 refused-same (Analysis.Refused cause) e f = f cause refl
 
-pub framed : {r : Agc2Controller} {s c : InputVolumeController} {volume : ℤ} {samples : ℕ} {lent : List Float} (a : Analyzed) {n : FrameNumbers} → c ≡ s → n ≡ frameNumbers (analysisSays (a .answer)) → r ≡ besideOf (n .refusal) (n .near) (a .controller)
-    → Calls.AnalyzedOf c volume samples lent a → AnalyzedOf s volume samples lent r
-framed {r} {s} {c} {volume} {samples} {lent} a {n} w f e h =
-    subst (λ (x : InputVolumeController). AnalyzedOf x volume samples lent r) w
-    (subst (λ (x : Agc2Controller). AnalyzedOf c volume samples lent x) (sym e)
+pub framed : {r : Agc2Controller} {s c : InputVolumeController} {volumes : List ℤ} {samples : ℕ} {lent : List Float} (a : Analyzed) {n : FrameNumbers} → c ≡ s → n ≡ frameNumbers (analysisSays (a .answer)) → r ≡ besideOf (n .refusal) (n .near) (a .controller)
+    → Calls.AnalyzedEachOf c volumes samples lent a → AnalyzedEachOf s volumes samples lent r
+framed {r} {s} {c} {volumes} {samples} {lent} a {n} w f e h =
+    subst (λ (x : InputVolumeController). AnalyzedEachOf x volumes samples lent r) w
+    (subst (λ (x : Agc2Controller). AnalyzedEachOf c volumes samples lent x) (sym e)
     (record {
       typed = h .does .typed;
       refusal = ap (λ (x : FrameNumbers). x .refusal) (f ∙ ap frameNumbers (h .does .reply));

@@ -1,2 +1,4 @@
 pub mod Flags
 pub mod Handed
+pub mod InPlace
+pub mod PassOn

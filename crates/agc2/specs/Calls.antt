@@ -11,13 +11,16 @@ use Rattle.mono_input_volume_controller.specs.declared.speech_level.SpeechLevel
 use Rattle.input_volume_controller.specs.declared.volume_control.VolumeControl.{VolumeControl}
 use Rattle.input_volume_controller.specs.declared.InputVolumeController.{InputVolumeController}
 use Rattle.input_volume_controller.specs.Plain.{wholeControl}
+use Rattle.input_volume_controller.specs.Volumes.{equalVolumes}
 use Rattle.input_volume_controller.specs.Controller.{viewOf, Becomes, Making, basePredictor, makingWith}
 use Rattle.input_volume_controller.specs.Reply.{Reply, Stepped}
 use Rattle.input_volume_controller.specs.Reply.{refusal as refused}
 use Rattle.input_volume_controller.specs.Calls.{Call, frame, recommendation, step, Typed, ControlDoes}
 use Rattle.agc2.specs.declared.answers.Agc2Controller.{Agc2Controller}
 use Rattle.agc2.specs.declared.answers.Agc2Control.{Agc2Control}
+use Rattle.agc2.specs.declared.given.GivenVolumes.{GivenVolumes}
 use Rattle.agc2.specs.Whole.{wholeOf}
+use Rattle.agc2.specs.Given.{Gives}
 use Rattle.agc2.specs.Answers.{outcomeNumber, frameNumbers, volumeNumbers}
 
 -- no recommendation has been answered since
@@ -47,8 +50,16 @@ pub record FramedAs (self : InputVolumeController) (call : Call) (s : Stepped) (
   pub becomes : Becomes (s .state) (wholeOf r)
   pub same : (n : ℕ) → s .reply ≡ refused n → wholeOf r ≡ self
 
+-- with a volume for each channel, and with one for all
+abbrev pub AnalyzedEachOf : InputVolumeController → List ℤ → ℕ → List Float → Agc2Controller → Type 0
+AnalyzedEachOf self volumes samples lent r = FramedAs self (frame volumes samples lent) (step (viewOf self) (frame volumes samples lent)) r
+
 abbrev pub AnalyzedOf : InputVolumeController → ℤ → ℕ → List Float → Agc2Controller → Type 0
-AnalyzedOf self volume samples lent r = FramedAs self (frame volume samples lent) (step (viewOf self) (frame volume samples lent)) r
+AnalyzedOf self volume samples lent r = AnalyzedEachOf self (equalVolumes volume (self .control .channels .count)) samples lent r
+
+-- with volumes that are not yet counted
+abbrev pub AnalyzedGivenOf : InputVolumeController → GivenVolumes → ℕ → List Float → Agc2Controller → Type 0
+AnalyzedGivenOf self given samples lent r = (volumes : List ℤ) → Gives (self .control .channels .count) volumes given → AnalyzedEachOf self volumes samples lent r
 
 -- a recommendation, whatever predictor stands beside the control
 pub record RecommendedAs (self : VolumeControl) (call : Call) (r : Agc2Control) : Type 0 where

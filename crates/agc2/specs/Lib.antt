@@ -2,5 +2,6 @@
 pub mod Settings
 pub mod Answers
 pub mod Whole
+pub mod Given
 pub mod Calls
 pub mod Layout

@@ -17,11 +17,12 @@ ghost use Rattle.input_volume_controller.specs.ChannelMetrics.{channelMetrics};
 ghost use Rattle.agc2.specs.Settings.{configOf, predictorConfigOf};
 ghost use Rattle.agc2.specs.Answers.{recordOf, metricsOf, speechLevelOf};
 ghost use Rattle.agc2.specs.Whole.{wholeOf, besideOf};
-ghost use Rattle.agc2.specs.Calls.{CreatedWith, CreatedOf, AnalyzedOf, RecommendedOf};
+ghost use Rattle.agc2.specs.Calls.{CreatedWith, CreatedOf, AnalyzedGivenOf, AnalyzedOf, AnalyzedEachOf, RecommendedOf};
 use crate::answers::Agc2Control;
 use crate::answers::Agc2Controller;
 use crate::answers::Agc2Metrics;
 use crate::answers::Agc2Record;
+use crate::given::GivenVolumes;
 use crate::settings::Agc2Config;
 use crate::settings::Agc2PredictorConfig;
 use input_volume_controller::InputVolumeController;
@@ -32,6 +33,7 @@ use input_volume_controller::plain::whole_control;
 use input_volume_controller::plain::whole_predictor;
 
 pub mod answers;
+mod given;
 pub mod layout;
 pub mod settings;
 
@@ -121,22 +123,36 @@ pub extern "C" fn agc2_handle_capture_output_used_change_by_value(
 // A frame, with the answer to the one before it still beside the controller.
 fn analyzed(
     before: Agc2Controller,
-    applied_input_volume: i32,
+    given: GivenVolumes,
     samples_per_channel: usize,
     samples: &[f32],
 ) -> Agc2Controller
     requires { ⌜ Good (wholeOf before) ⌝ }
-    ensures { λ r. ⌜ AnalyzedOf (wholeOf before) «applied_input_volume» «samples_per_channel» (now (samples .entry)) r ⌝ }
+    ensures { λ r. ⌜ AnalyzedGivenOf (wholeOf before) given «samples_per_channel» (now (samples .entry)) r ⌝ }
 {
     let c = whole(before);
-    let analyzed = c.analyze_input_audio(applied_input_volume, samples_per_channel, samples);
+    let set = given::set_for(given, c.control.channels.count);
+    let analyzed = c.analyze_volumes(set, samples_per_channel, samples);
     let answer = analyzed.answer;
     let handed = analyzed.controller;
     let numbers = answers::frame_numbers(answer);
     beside(numbers.refusal, numbers.near, handed)
 }
 
-// Causes 8 and 9.
+// The same in the controller's place. Both forms of a frame come here by the controller's address: each pass by value would copy its rings.
+fn analyzed_into(
+    controller: &mut Agc2Controller,
+    given: GivenVolumes,
+    samples_per_channel: usize,
+    samples: &[f32],
+)
+    requires { ⌜ Good (wholeOf (now controller)) ⌝ }
+    ensures { λ _. ⌜ AnalyzedGivenOf (wholeOf (now (controller .entry))) given «samples_per_channel» (now (samples .entry)) (now (controller .exit)) ⌝ }
+{
+    *controller = analyzed(*controller, given, samples_per_channel, samples);
+}
+
+// With one volume for all channels. Causes 8 and 9.
 #[no_mangle]
 pub extern "C" fn agc2_analyze_input_audio_into(
     controller: &mut Agc2Controller,
@@ -147,12 +163,31 @@ pub extern "C" fn agc2_analyze_input_audio_into(
     requires { ⌜ Good (wholeOf (now controller)) ⌝ }
     ensures { λ _. ⌜ AnalyzedOf (wholeOf (now (controller .entry))) «applied_input_volume» «samples_per_channel» (now (samples .entry)) (now (controller .exit)) ⌝ }
 {
-    *controller = analyzed(
-        *controller,
-        applied_input_volume,
+    analyzed_into(
+        controller,
+        given::one_volume(applied_input_volume),
         samples_per_channel,
         samples,
-    );
+    )
+}
+
+// With a volume for each channel. Causes 20, 8 and 9.
+#[no_mangle]
+pub extern "C" fn agc2_analyze_input_audio_each_into(
+    controller: &mut Agc2Controller,
+    volumes: &[i32],
+    samples_per_channel: usize,
+    samples: &[f32],
+)
+    requires { ⌜ Good (wholeOf (now controller)) ⌝ }
+    ensures { λ _. ⌜ AnalyzedEachOf (wholeOf (now (controller .entry))) (now (volumes .entry)) «samples_per_channel» (now (samples .entry)) (now (controller .exit)) ⌝ }
+{
+    analyzed_into(
+        controller,
+        given::each_volume(volumes),
+        samples_per_channel,
+        samples,
+    )
 }
 
 // A recommendation, with the answer to the one before it still beside the control.

@@ -3,19 +3,16 @@ use mathlib.Core.Path.{_≡_, refl}
 use mathlib.Core.Bool.{Bool, true, false, not, _&&_}
 use mathlib.Core.List.{List}
 use Prim.Native.Nat.{ℕ}
-use lib.Dec.{ltb}
+use lib.Dec.{ltb, eqb}
 use lib.Ieee.{Float, lt}
 use lib.ListN.{length}
-use Rattle.numbers.specs.declared.natural.Natural.{Natural}
-use Rattle.numbers.specs.declared.natural.Natural.the-variants.{Number, Outside}
-use Rattle.numbers.specs.Natural.{withinOf}
 use Rattle.clipping_predictor.specs.Predictor.{frameFits, enteredIf}
 use Rattle.input_volume_controller.specs.ClippedRatio.{clippedRatio}
-use Rattle.mono_input_volume_controller.specs.MonoState.{maxInputVolume}
-use Rattle.input_volume_controller.specs.ControlCalls.{withAppliedInputVolume}
+use Rattle.input_volume_controller.specs.ControlCalls.{withAppliedInputVolumes}
 use Rattle.input_volume_controller.specs.Controller.{Controller}
+use Rattle.input_volume_controller.specs.Volumes.{Volumes, outsideSet, numberSet, areNumbers, numbersOf}
 use Rattle.input_volume_controller.specs.Frame.{unlessWaiting, ifUsed, unlessRefused, analyzeInputAudio}
-use Rattle.claims.specs.Past.{isNumber, isAccepted}
+use Rattle.claims.specs.Past.{isAccepted}
 use Rattle.claims.specs.Sharp.{isRefusal, AcceptedIsNotRefused}
 
 marked-waiting : (t clipped : Bool) (c : Controller) → isRefusal (unlessWaiting t clipped c .reply) ≡ false
@@ -29,13 +26,15 @@ marked-used true samples lent c =
     (record { control = c .control; predictor = enteredIf true samples lent (c .predictor) })
 marked-used false samples lent c = refl
 
-refused-if : (volume : Natural) (fits : Bool) (samples : ℕ) (lent : List Float) (c : Controller)
-    → isRefusal (unlessRefused volume fits samples lent c .reply) ≡ not (isNumber volume && fits)
-refused-if Outside fits samples lent c = refl
-refused-if (Number volume) false samples lent c = refl
-refused-if (Number volume) true samples lent c = marked-used (c .control .used) samples lent (record { control = withAppliedInputVolume volume (c .control); predictor = c .predictor })
+refused-if : (counted : Bool) (volumes : Volumes) (fits : Bool) (samples : ℕ) (lent : List Float) (c : Controller)
+    → isRefusal (unlessRefused counted volumes fits samples lent c .reply) ≡ not (counted && (areNumbers volumes && fits))
+refused-if false volumes fits samples lent c = refl
+refused-if true outsideSet fits samples lent c = refl
+refused-if true (numberSet volumes) false samples lent c = refl
+refused-if true (numberSet volumes) true samples lent c = marked-used (c .control .used) samples lent (record { control = withAppliedInputVolumes volumes (c .control); predictor = c .predictor })
 
 -- THE CLAIM
 pub accepted-is-not-refused : AcceptedIsNotRefused
 unfolding isAccepted analyzeInputAudio
-accepted-is-not-refused c volume samples lent = refused-if (withinOf 0 maxInputVolume volume) (frameFits (length (c .control .channels)) samples lent) samples lent c
+accepted-is-not-refused c volumes samples lent =
+    refused-if (eqb (length volumes) (length (c .control .channels))) (numbersOf volumes) (frameFits (length (c .control .channels)) samples lent) samples lent c

@@ -4,29 +4,35 @@ use mathlib.Core.List.{List, [], _∷_}
 use Prim.Native.Nat.{ℕ, _<_}
 use lib.ListN.{length, length-replicate}
 use Rattle.numbers.proofs.Listed.{length-listed}
+use Rattle.mono_input_volume_controller.specs.Mono.{created}
 use Rattle.input_volume_controller.specs.declared.InputVolumeController.{InputVolumeController}
 use Rattle.input_volume_controller.specs.Channels.{channelsOf}
 use Rattle.input_volume_controller.specs.Control.{controlOf}
-use Rattle.input_volume_controller.specs.Controller.{Controller, viewOf, Good}
+use Rattle.input_volume_controller.specs.Controller.{Controller, viewOf, Good, freshWith}
 use Rattle.input_volume_controller.specs.Reply.{Reply}
 use Rattle.input_volume_controller.specs.Calls.{Call, Answer, after, answers}
 use Rattle.agc2.specs.declared.answers.Agc2Controller.{Agc2Controller}
 use Rattle.agc2.specs.Whole.{wholeOf}
 use Rattle.claims.specs.Library.{Numbers, inNumbers, Heard, LibraryRun, allInNumbers}
 use Rattle.claims.specs.Run.{Run}
-use Rattle.claims.specs.Equal.{AsOne}
-use Rattle.claims.specs.Depends.{History, standing, AgreeInAll, repliesIn}
+use Rattle.claims.specs.Equal.{AsOne, EvenCalls}
+use Rattle.claims.specs.Depends.{History, standing, Even, AgreeInAll, repliesIn}
 use Rattle.claims.specs.AsOneInCode.{channelsIn, HasPast, AsOneInCode, HasLibraryPast, numbersIn, AsOneInLibrary}
 use Rattle.claims.proofs.Run.{runs-are-runs}
 use Rattle.claims.proofs.Fresh.{making-fresh}
 use Rattle.claims.proofs.Library.{runs-as, made-created}
-use Rattle.claims.proofs.Depends.{left, depends-on-one}
+use Rattle.claims.proofs.Depends.{left, all-as-one, depends-on-one}
 
 -- ---- the code
+
+view-count : (c : InputVolumeController) → length (viewOf c .control .channels) ≡ channelsIn c
+unfolding viewOf controlOf channelsOf
+view-count c = length-listed _ (channelsIn c)
 
 -- what has a past in the code has one in the definition, since a fresh controller stands beside every answer of a making
 record Stands (c : InputVolumeController) : Type 0 where
   history : History
+  even : Even history
   is : viewOf c ≡ standing history
   good : Good c
 
@@ -34,23 +40,24 @@ stands : (c : InputVolumeController) → HasPast c → Stands c
 stands c h =
     let f = making-fresh (h .channels) (h .config) (h .predictor) in
     let r = runs-are-runs _ _ _ _ (h .created .good) (h .run) in
+    let new : viewOf (h .made .controller) ≡ freshWith (f .predictor) (f .settings) (f .count) = h .created .view ∙ f .is in
+    let count : channelsIn (h .made .controller) ≡ f .count =
+    sym (view-count (h .made .controller)) ∙ ap (λ (v : Controller). length (v .control .channels)) new ∙ length-replicate (f .count) (created (f .settings)) in
     record {
       history = record { predictor = f .predictor; settings = f .settings; channels = f .count; calls = h .calls };
-      is = r .view ∙ ap (λ (x : Controller). after x (h .calls)) (h .created .view ∙ f .is);
+      even = subst (λ (n : ℕ). EvenCalls n (h .calls)) count (h .even);
+      is = r .view ∙ ap (λ (x : Controller). after x (h .calls)) new;
       good = r .good;
     }
 
 -- with its count of channels
 count-of : (c : InputVolumeController) (s : Stands c) → s .history .channels ≡ channelsIn c
-unfolding viewOf controlOf channelsOf
-count-of c s =
-    let o = left (s .history) .one in
-    sym (ap length (o .equal) ∙ length-replicate (s .history .channels) (o .state)) ∙ sym (ap (λ (v : Controller). length (v .control .channels)) (s .is)) ∙ length-listed _ (channelsIn c)
+count-of c s = sym (left (s .history) .channels) ∙ sym (ap (λ (v : Controller). length (v .control .channels)) (s .is)) ∙ view-count c
 
 code-equal : (c : InputVolumeController) → HasPast c → AsOne (channelsIn c) (viewOf c .control)
 code-equal c h =
     let s = stands c h in
-    subst (λ (n : ℕ). AsOne n (viewOf c .control)) (count-of c s) (subst (λ (v : Controller). AsOne (s .history .channels) (v .control)) (sym (s .is)) (left (s .history) .one))
+    subst (λ (n : ℕ). AsOne n (viewOf c .control)) (count-of c s) (subst (λ (v : Controller). AsOne (s .history .channels) (v .control)) (sym (s .is)) (all-as-one (s .history) (s .even)))
 
 code-depends : (a b : InputVolumeController) → HasPast a → HasPast b → (channel : ℕ) → channel < channelsIn a → AgreeInAll channel (viewOf a) (viewOf b)
     → (calls : List Call) (one other : List Answer) (c d : InputVolumeController) → Run a calls one c → Run b calls other d → repliesIn one ≡ repliesIn other
@@ -61,7 +68,7 @@ code-depends a b h k channel inside g calls one other c d r t =
     let heard : Controller → List Reply = λ v. repliesIn (answers v calls) in
     ap repliesIn (runs-are-runs _ _ _ _ (x .good) r .answered)
     ∙ ap heard (x .is)
-    ∙ depends-on-one (x .history) (y .history) channel (subst (λ (n : ℕ). channel < n) (sym (count-of a x)) inside) agree calls
+    ∙ depends-on-one (x .history) (y .history) (x .even) (y .even) channel (subst (λ (n : ℕ). channel < n) (sym (count-of a x)) inside) agree calls
     ∙ ap heard (sym (y .is))
     ∙ sym (ap repliesIn (runs-are-runs _ _ _ _ (y .good) t .answered))
 
@@ -76,7 +83,7 @@ whole-past : (c : Agc2Controller) → HasLibraryPast c → HasPast (wholeOf c)
 whole-past c h =
     let made = made-created (h .channels) (h .config) (h .predictor) (h .made) (h .created) in
     let r = runs-as (h .created .becomes .good) (h .run) in
-    record { channels = h .channels; config = h .config; predictor = h .predictor; made = made .made; created = made .created; calls = h .calls; heard = r .heard; run = r .run }
+    record { channels = h .channels; config = h .config; predictor = h .predictor; made = made .made; created = made .created; calls = h .calls; heard = r .heard; run = r .run; even = h .even }
 
 -- the numbers of the calls are those of the replies
 numbersBy : List Call → List Reply → List Numbers

@@ -5,13 +5,11 @@ use mathlib.Core.List.{List}
 use Prim.Native.Nat.{ℕ, zero, suc, _≤_, zero-le}
 use native.Mathlib.Nat.{not-suc-le-zero}
 use native.Mathlib.Omega.{arith}
-use lib.Dec.{ltb, le→leb}
+use lib.Dec.{ltb, eqb, le→leb}
 use lib.IntN.{ℤ, pos}
 use lib.Signed.{leZ-yes}
 use lib.Ieee.{Float, lt}
 use lib.ListN.{length}
-use Rattle.numbers.specs.declared.natural.Natural.{Natural}
-use Rattle.numbers.specs.declared.natural.Natural.the-variants.{Number, Outside}
 use Rattle.numbers.specs.declared.refusal.Outcome.the-variants.{Accepted}
 use Rattle.numbers.specs.Natural.{withinOf}
 use Rattle.clipping_predictor.specs.Predictor.{maxChannels, frameFits, enteredIf}
@@ -21,18 +19,18 @@ use Rattle.mono_input_volume_controller.specs.declared.config.Settings.{Setting
 use Rattle.mono_input_volume_controller.specs.declared.speech_level.SpeechLevel.{SpeechLevel}
 use Rattle.input_volume_controller.specs.declared.Applied.{Applied}
 use Rattle.input_volume_controller.specs.declared.Applied.the-variants.{Nothing, Volume}
-use Rattle.mono_input_volume_controller.specs.MonoState.{maxInputVolume}
 use Rattle.mono_input_volume_controller.specs.Config.{settingsFrom}
 use Rattle.input_volume_controller.specs.ClippedRatio.{clippedRatio}
 use Rattle.input_volume_controller.specs.Control.{Control}
-use Rattle.input_volume_controller.specs.ControlCalls.{raisedFor, aggregated, withAppliedInputVolume, processChannels}
+use Rattle.input_volume_controller.specs.ControlCalls.{raisedFor, aggregated, withAppliedInputVolumes, processChannels}
 use Rattle.input_volume_controller.specs.Controller.{Controller, makingWith}
 use Rattle.input_volume_controller.specs.Reply.{Reply, mark, refusal, volume, none, done}
+use Rattle.input_volume_controller.specs.Volumes.{Volumes, outsideSet, numberSet, numbersOf}
 use Rattle.input_volume_controller.specs.Frame.{unlessWaiting, ifUsed, unlessRefused, analyzeInputAudio}
 use Rattle.input_volume_controller.specs.Recommendation.{recommendIf, unlessNone, recommendInputVolume}
 use Rattle.input_volume_controller.specs.Calls.{Call, frame, recommendation, initialise, captureSwitch, step, after}
 use Rattle.claims.specs.Bounds.{Within, InBounds, AnswersVolumes, Bounds}
-use Rattle.claims.proofs.Walk.{after-keeps, step-keeps}
+use Rattle.claims.proofs.Walk.{Any, any-by, after-keeps, step-keeps}
 use Rattle.claims.proofs.Made.{MadeWith, accepted-making, made-sound, minimum-most, minimum-kept}
 use Rattle.claims.proofs.Sound.{AppliedMost, Sound, sound-kept}
 
@@ -58,10 +56,11 @@ used-fine true samples lent c =
     (record { control = c .control; predictor = enteredIf true samples lent (c .predictor) })
 used-fine false samples lent c = tt
 
-frame-fine : (v : Natural) (fits : Bool) (samples : ℕ) (lent : List Float) (c : Controller) → Fine (unlessRefused v fits samples lent c .reply)
-frame-fine Outside fits samples lent c = tt
-frame-fine (Number n) false samples lent c = tt
-frame-fine (Number n) true samples lent c = used-fine (c .control .used) samples lent (record { control = withAppliedInputVolume n (c .control); predictor = c .predictor })
+frame-fine : (counted : Bool) (v : Volumes) (fits : Bool) (samples : ℕ) (lent : List Float) (c : Controller) → Fine (unlessRefused counted v fits samples lent c .reply)
+frame-fine false v fits samples lent c = tt
+frame-fine true outsideSet fits samples lent c = tt
+frame-fine true (numberSet n) false samples lent c = tt
+frame-fine true (numberSet n) true samples lent c = used-fine (c .control .used) samples lent (record { control = withAppliedInputVolumes n (c .control); predictor = c .predictor })
 
 -- with a volume above 0 pending, the volume that is taken is raised to the minimum
 raised-from : (a : Applied) (v least x : ℕ) → a ≡ Volume (suc v) → least ≤ raisedFor a least x
@@ -72,35 +71,35 @@ processed-least : (c : Control) (p : Float) (l : SpeechLevel) (v : ℕ) → c .a
 unfolding processChannels aggregated
 processed-least c p l v e = raised-from (c .applied) v (c .settings .least) _ e
 
-module _ (s : Settings) (n : ℕ) (low : s .least ≤ 255) where
+module _ (s : Settings) (low : s .least ≤ 255) where
   -- the volume that a recommendation takes
-  processed-most : (p : Float) (l : SpeechLevel) (c : Control) → Sound s n c → processChannels p l c .volume ≤ 255
-  processed-most p l c h = sound-kept s n low .runs .processes p l c h .volume
+  processed-most : (p : Float) (l : SpeechLevel) (c : Control) → Sound s c → processChannels p l c .volume ≤ 255
+  processed-most p l c h = sound-kept s low .runs .processes p l c h .volume
 
-  recommends-fine : (used : Bool) (applied : ℕ) (p : Float) (l : SpeechLevel) (c : Controller) → applied ≤ 255 → Sound s n (c .control) → Fine (recommendIf used applied p l c .reply)
+  recommends-fine : (used : Bool) (applied : ℕ) (p : Float) (l : SpeechLevel) (c : Controller) → applied ≤ 255 → Sound s (c .control) → Fine (recommendIf used applied p l c .reply)
   recommends-fine true applied p l c k h = within 0 _ zero-le (processed-most p l (c .control) h)
   recommends-fine false applied p l c k h = within 0 applied zero-le k
 
-  recommendation-fine : (a : Applied) (p : Float) (l : SpeechLevel) (c : Controller) → c .control .applied ≡ a → Sound s n (c .control) → Fine (unlessNone a p l c .reply)
+  recommendation-fine : (a : Applied) (p : Float) (l : SpeechLevel) (c : Controller) → c .control .applied ≡ a → Sound s (c .control) → Fine (unlessNone a p l c .reply)
   recommendation-fine Nothing p l c e h = tt
   recommendation-fine (Volume v) p l c e h = recommends-fine (c .control .used) v p l c (subst AppliedMost e (h .applied)) h
 
-  step-fine : (call : Call) (c : Controller) → Sound s n (c .control) → Fine (step c call .reply)
+  step-fine : (call : Call) (c : Controller) → Sound s (c .control) → Fine (step c call .reply)
   unfolding analyzeInputAudio recommendInputVolume
-  step-fine (frame v samples lent) c h = frame-fine (withinOf 0 maxInputVolume v) (frameFits (length (c .control .channels)) samples lent) samples lent c
+  step-fine (frame v samples lent) c h = frame-fine (eqb (length v) (length (c .control .channels))) (numbersOf v) (frameFits (length (c .control .channels)) samples lent) samples lent c
   step-fine (recommendation p l) c h = recommendation-fine (c .control .applied) p l c refl h
   step-fine initialise c h = tt
   step-fine (captureSwitch on) c h = tt
 
-  sound-answers : (call : Call) (c : Controller) → Sound s n (c .control) → AnswersVolumes c call
-  sound-answers call c h = record { reply = λ z e. subst Fine e (step-fine call c h); after = step-keeps (Sound s n) (sound-kept s n low) call c h .volume }
+  sound-answers : (call : Call) (c : Controller) → Sound s (c .control) → AnswersVolumes c call
+  sound-answers call c h = record { reply = λ z e. subst Fine e (step-fine call c h); after = step-keeps Any (Sound s) (sound-kept s low) call c (any-by call c) h .volume }
 
   -- ---- with capture on and a volume above 0 applied
 
-  raised-least : (c : Control) (p : Float) (l : SpeechLevel) (v : ℕ) → c .applied ≡ Volume (suc v) → Sound s n c → s .least ≤ processChannels p l c .volume
+  raised-least : (c : Control) (p : Float) (l : SpeechLevel) (v : ℕ) → c .applied ≡ Volume (suc v) → Sound s c → s .least ≤ processChannels p l c .volume
   raised-least c p l v e h = omega (arith, processed-least c p l v e, ap (λ (t : Settings). t .least) (h .settings))
 
-  sound-bounds : (c : Controller) → Sound s n (c .control) → InBounds (pos (s .least)) c
+  sound-bounds : (c : Controller) → Sound s (c .control) → InBounds (pos (s .least)) c
   unfolding recommendInputVolume
   sound-bounds c h zero on e pos-applied p l = absurd (not-suc-le-zero pos-applied)
   sound-bounds c h (suc v) on e pos-applied p l = record {
@@ -115,14 +114,14 @@ module _ (channels : ℤ) (config : Config) (predictor : ClippingPredictorConfig
   made : MadeWith (withinOf 1 maxChannels channels) config (settingsFrom config) predictor (makingWith channels config predictor .controller)
   made = accepted-making channels config predictor accepted
 
-  sound : Sound (settingsFrom config) (made .count) (after (makingWith channels config predictor .controller) calls .control)
-  sound = after-keeps _ (sound-kept (settingsFrom config) (made .count) (minimum-most config _ made)) calls (makingWith channels config predictor .controller) (made-sound config _ made)
+  sound : Sound (settingsFrom config) (after (makingWith channels config predictor .controller) calls .control)
+  sound = after-keeps _ (sound-kept (settingsFrom config) (minimum-most config _ made)) calls (makingWith channels config predictor .controller) (made-sound config _ made)
 
   bounded : InBounds (config .«min_input_volume») (after (makingWith channels config predictor .controller) calls)
-  bounded = subst (λ (z : ℤ). InBounds z (after (makingWith channels config predictor .controller) calls)) (minimum-kept config _ made) (sound-bounds (settingsFrom config) (made .count) (minimum-most config _ made) _ sound)
+  bounded = subst (λ (z : ℤ). InBounds z (after (makingWith channels config predictor .controller) calls)) (minimum-kept config _ made) (sound-bounds (settingsFrom config) (minimum-most config _ made) _ sound)
 
   answered-volumes : (call : Call) → AnswersVolumes (after (makingWith channels config predictor .controller) calls) call
-  answered-volumes call = sound-answers (settingsFrom config) (made .count) (minimum-most config _ made) call _ sound
+  answered-volumes call = sound-answers (settingsFrom config) (minimum-most config _ made) call _ sound
 
 pub bounds : Bounds
 bounds = record { recommendations = bounded; answered = answered-volumes }

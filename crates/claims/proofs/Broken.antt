@@ -1,27 +1,24 @@
 -- After delay + reference frames that were accepted with capture on, every ring stores records of those frames alone, from whatever state. Assumes nothing.
-use mathlib.Core.Path.{_≡_, refl, sym, ap, subst, _∙_}
-use mathlib.Core.Bool.{Bool, true, false, not, _&&_, _||_}
+use mathlib.Core.Path.{_≡_, refl, sym, subst}
+use mathlib.Core.Bool.{Bool, true, false, _&&_, _||_}
 use mathlib.Core.List.{List, _∷_, reverse}
 use Prim.Native.Nat.{ℕ, max}
-use lib.Dec.{ltb}
+use lib.Dec.{ltb, eqb}
 use lib.Ieee.{Float, lt}
 use lib.ListN.{length}
-use Rattle.numbers.specs.declared.natural.Natural.{Natural}
-use Rattle.numbers.specs.declared.natural.Natural.the-variants.{Number, Outside}
-use Rattle.numbers.specs.Natural.{withinOf}
 use Rattle.clipping_predictor.specs.Predictor.{Predictor, frameFits, enteredIf}
 use Rattle.mono_input_volume_controller.specs.declared.speech_level.SpeechLevel.{SpeechLevel}
 use Rattle.input_volume_controller.specs.declared.Applied.{Applied}
 use Rattle.input_volume_controller.specs.declared.Applied.the-variants.{Nothing, Volume}
-use Rattle.mono_input_volume_controller.specs.MonoState.{maxInputVolume}
 use Rattle.input_volume_controller.specs.ClippedRatio.{clippedRatio}
-use Rattle.input_volume_controller.specs.ControlCalls.{withAppliedInputVolume}
+use Rattle.input_volume_controller.specs.ControlCalls.{withAppliedInputVolumes}
 use Rattle.input_volume_controller.specs.Controller.{Controller}
 use Rattle.clipping_predictor.specs.AllRings.{predictedBy}
+use Rattle.input_volume_controller.specs.Volumes.{Volumes, outsideSet, numberSet, areNumbers, numbersOf}
 use Rattle.input_volume_controller.specs.Frame.{askedOf, handleIf, unlessWaiting, ifUsed, unlessRefused, analyzeInputAudio}
 use Rattle.input_volume_controller.specs.Recommendation.{recommendIf, unlessNone, recommendInputVolume}
 use Rattle.input_volume_controller.specs.Calls.{Call, frame, recommendation, initialise, captureSwitch, step, after}
-use Rattle.claims.specs.Past.{captureOn, isNumber, isAccepted}
+use Rattle.claims.specs.Past.{captureOn, isAccepted}
 use Rattle.claims.specs.Broken.{Frame, withIf, acceptedFrames, BrokenLeaves}
 use Rattle.claims.proofs.Capture.{Open, open-next}
 use Rattle.claims.proofs.Newest.{from-newest}
@@ -48,11 +45,12 @@ module _ (start : Predictor) (frames : List Frame) (samples : ℕ) (lent : List 
       (record { control = c .control; predictor = enteredIf true samples lent (c .predictor) }) (stored-entered start frames (c .predictor) samples lent h)
   if-used false c h = h
 
-  unless-refused : (v : Natural) (fits : Bool) (c : Controller) → Stored start frames (c .predictor)
-      → Stored start (withIf ((isNumber v && fits) && c .control .used) (record { samples = samples; lent = lent }) frames) (unlessRefused v fits samples lent c .state .predictor)
-  unless-refused Outside fits c h = h
-  unless-refused (Number n) false c h = h
-  unless-refused (Number n) true c h = if-used (c .control .used) (record { control = withAppliedInputVolume n (c .control); predictor = c .predictor }) h
+  unless-refused : (counted : Bool) (v : Volumes) (fits : Bool) (c : Controller) → Stored start frames (c .predictor)
+      → Stored start (withIf ((counted && (areNumbers v && fits)) && c .control .used) (record { samples = samples; lent = lent }) frames) (unlessRefused counted v fits samples lent c .state .predictor)
+  unless-refused false v fits c h = h
+  unless-refused true outsideSet fits c h = h
+  unless-refused true (numberSet n) false c h = h
+  unless-refused true (numberSet n) true c h = if-used (c .control .used) (record { control = withAppliedInputVolumes n (c .control); predictor = c .predictor }) h
 
 -- ---- a recommendation leaves the rings alone
 
@@ -77,8 +75,8 @@ module _ (start : Controller) where
   stored-next (frame v samples lent) past c h =
       let frames = acceptedFrames (length (start .control .channels)) (start .control .used) past in
       subst (λ (t : Bool). Stored (start .predictor) (withIf t (record { samples = samples; lent = lent }) frames) (step c (frame v samples lent) .state .predictor))
-      (λ i. (isNumber (withinOf 0 maxInputVolume v) && frameFits (h .capture .channels i) samples lent) && h .capture .used i)
-      (unless-refused (start .predictor) frames samples lent (withinOf 0 maxInputVolume v) (frameFits (length (c .control .channels)) samples lent) c (h .stored))
+      (λ i. (eqb (length v) (h .capture .channels i) && (areNumbers (numbersOf v) && frameFits (h .capture .channels i) samples lent)) && h .capture .used i)
+      (unless-refused (start .predictor) frames samples lent (eqb (length v) (length (c .control .channels))) (numbersOf v) (frameFits (length (c .control .channels)) samples lent) c (h .stored))
   stored-next (recommendation probability level) past c h = subst (Stored (start .predictor) _) (sym (recommendation-same (c .control .applied) probability level c)) (h .stored)
   stored-next initialise past c h = h .stored
   stored-next (captureSwitch on) past c h = h .stored

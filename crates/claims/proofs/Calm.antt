@@ -5,12 +5,9 @@ use mathlib.Core.Bool.{Bool, true, false, not, _&&_, _||_}
 use Prim.Native.Nat.{ℕ, suc, _+_, _-_, _≤_, zero-le}
 use native.Mathlib.Nat.{le-refl}
 use native.Mathlib.Omega.{arith}
-use lib.Dec.{T}
+use lib.Dec.{T, eqb}
 use lib.Ieee.{Float, le}
-use lib.ListN.{replicate}
-use Rattle.numbers.specs.declared.natural.Natural.{Natural}
-use Rattle.numbers.specs.declared.natural.Natural.the-variants.{Number, Outside}
-use Rattle.numbers.specs.Natural.{withinOf}
+use lib.ListN.{length, replicate}
 use Rattle.clipping_predictor_level_buffer.specs.declared.level.Level.{Level}
 use Rattle.clipping_predictor_level_buffer.specs.Statistics.{plusZero}
 use Rattle.clipping_predictor.specs.declared.settings.Settings as Predictor
@@ -21,13 +18,13 @@ use Rattle.mono_input_volume_controller.specs.declared.speech_level.SpeechLevel
 use Rattle.input_volume_controller.specs.declared.Applied.{Applied}
 use Rattle.input_volume_controller.specs.declared.Applied.the-variants.{Nothing, Volume}
 use Rattle.clipping_predictor_level_buffer.specs.Clipped.{oneIf}
-use Rattle.mono_input_volume_controller.specs.MonoState.{maxInputVolume}
 use Rattle.input_volume_controller.specs.ControlCalls.{aggregated, initialize, processChannels}
 use Rattle.input_volume_controller.specs.Controller.{Controller}
+use Rattle.input_volume_controller.specs.Volumes.{Volumes, outsideSet, numberSet, areNumbers, numbersOf}
 use Rattle.input_volume_controller.specs.Frame.{unlessRefused, analyzeInputAudio}
 use Rattle.input_volume_controller.specs.Recommendation.{recommendIf, unlessNone, recommendInputVolume}
 use Rattle.input_volume_controller.specs.Calls.{Call, frame, recommendation, initialise, captureSwitch, step, after}
-use Rattle.claims.specs.Past.{isNumber, isAccepted}
+use Rattle.claims.specs.Past.{isAccepted}
 use Rattle.claims.specs.LeadIn.{all, acceptedBy, acceptedIn, isLow, quietFor, isCalm}
 use Rattle.claims.specs.TwoPasts.{enoughFor}
 use Rattle.claims.proofs.Lists.{and-l, and-r, is-true}
@@ -44,7 +41,7 @@ growIf false levels grown = grown
 
 unfoldable pub grownBy : ℕ → Call → List (List Level) → List (List Level)
 unfolding isAccepted
-grownBy n (frame volume samples lent) grown = growIf (isAccepted n volume samples lent) (levelsOf n samples lent) grown
+grownBy n (frame volumes samples lent) grown = growIf (isAccepted n volumes samples lent) (levelsOf n samples lent) grown
 grownBy n (recommendation probability level) grown = grown
 grownBy n initialise grown = grown
 grownBy n (captureSwitch on) grown = grown
@@ -82,19 +79,20 @@ module _ (p : Predictor.Settings) (s : Settings) (n : ℕ) where
   led-switch on grown k c t h = record { on = is-true on t; m = h .m; late = h .late; rows = h .rows; waited = h .waited }
 
   module _ (window : 1 ≤ p .window) (ratio : T (le plusZero (s .«clipped_ratio»))) where
-    led-heard : (volume : Natural) (fits : Bool) (samples : ℕ) (lent : List Float) (grown : List (List Level)) (k : ℕ) (c : Controller) → Kept p s n c
-        → T (not (isNumber volume && fits) || quietFor p n samples lent) → L grown k c
-        → L (growIf (isNumber volume && fits) (levelsOf n samples lent) grown) (oneIf (isNumber volume && fits) + k) (unlessRefused volume fits samples lent c .state)
-    led-heard Outside fits samples lent grown k c b t h = led-by _ k (0 + k) _ (omega arith) h
-    led-heard (Number volume) false samples lent grown k c b t h = led-by _ k (0 + k) _ (omega arith) h
-    led-heard (Number volume) true samples lent grown k c b t h = led-by _ (suc k) (1 + k) _ (omega arith) (led-frame p s n window ratio volume samples lent grown k c b t h)
+    led-heard : (counted : Bool) (volumes : Volumes) (fits : Bool) (samples : ℕ) (lent : List Float) (grown : List (List Level)) (k : ℕ) (c : Controller) → Kept p s n c
+        → T (not (counted && (areNumbers volumes && fits)) || quietFor p n samples lent) → L grown k c
+        → L (growIf (counted && (areNumbers volumes && fits)) (levelsOf n samples lent) grown) (oneIf (counted && (areNumbers volumes && fits)) + k) (unlessRefused counted volumes fits samples lent c .state)
+    led-heard false volumes fits samples lent grown k c b t h = led-by _ k (0 + k) _ (omega arith) h
+    led-heard true outsideSet fits samples lent grown k c b t h = led-by _ k (0 + k) _ (omega arith) h
+    led-heard true (numberSet volumes) false samples lent grown k c b t h = led-by _ k (0 + k) _ (omega arith) h
+    led-heard true (numberSet volumes) true samples lent grown k c b t h = led-by _ (suc k) (1 + k) _ (omega arith) (led-frame p s n window ratio volumes samples lent grown k c b t h)
 
     led-step : (call : Call) (grown : List (List Level)) (k : ℕ) (c : Controller) → Kept p s n c → T (isCalm n (quietFor p n) call) → L grown k c
         → L (grownBy n call grown) (acceptedBy n call + k) (step c call .state)
     unfolding grownBy acceptedBy isCalm isAccepted analyzeInputAudio recommendInputVolume
-    led-step (frame volume samples lent) grown k c b t h =
-        subst (λ (x : ℕ). L (grownBy n (frame volume samples lent) grown) (acceptedBy n (frame volume samples lent) + k) (unlessRefused (withinOf 0 maxInputVolume volume) (frameFits x samples lent) samples lent c .state))
-        (sym (count-of s n (c .control) (b .control))) (led-heard (withinOf 0 maxInputVolume volume) (frameFits n samples lent) samples lent grown k c b t h)
+    led-step (frame volumes samples lent) grown k c b t h =
+        subst (λ (x : ℕ). L (grownBy n (frame volumes samples lent) grown) (acceptedBy n (frame volumes samples lent) + k) (unlessRefused (eqb (length volumes) x) (numbersOf volumes) (frameFits x samples lent) samples lent c .state))
+        (sym (count-of s n (c .control) (b .control))) (led-heard (eqb (length volumes) n) (numbersOf volumes) (frameFits n samples lent) samples lent grown k c b t h)
     led-step (recommendation probability level) grown k c b t h = led-by _ k (0 + k) _ (omega arith) (led-asked (c .control .applied) probability level grown k c h)
     led-step initialise grown k c b t h = led-by _ k (0 + k) _ (omega arith) (led-initialise grown k c h)
     led-step (captureSwitch on) grown k c b t h = led-by _ k (0 + k) _ (omega arith) (led-switch on grown k c t h)

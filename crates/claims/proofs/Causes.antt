@@ -15,7 +15,9 @@ use Rattle.numbers.specs.Natural.{numberIf, withinOf}
 use Rattle.numbers.proofs.Ranges.{told}
 use Rattle.clipping_predictor.specs.Predictor.{frameFits}
 use Rattle.mono_input_volume_controller.specs.Config.{inRange, bothInRange, inUnit, bothInUnit}
-use Rattle.claims.specs.Causes.{Cause, outside, outsideUnit, frameCauses}
+use Rattle.mono_input_volume_controller.specs.MonoState.{maxInputVolume}
+use Rattle.input_volume_controller.specs.Volumes.{Volumes, outsideSet, numberSet, andVolume, areNumbers, numbersOf}
+use Rattle.claims.specs.Causes.{Cause, outside, anyOutside, outsideUnit, frameCauses}
 
 -- ---- the order
 
@@ -90,9 +92,22 @@ misfit-is channels samples lent =
     ∙ ap (λ (t : Bool). not (leb 1 samples) || t) (either (leb samples 480) c)
     ∙ either (leb 1 samples) (leb samples 480 && c)
 
--- causes 8 and 9 from their outcomes
-abbrev pub eightNine : Bool → Bool → List Cause
-eightNine a b = record { number = 8; holds = a } ∷ record { number = 9; holds = b } ∷ []
+-- ---- a set of volumes
 
-pub frame-causes : (channels : ℕ) (volume : ℤ) (samples : ℕ) (lent : List Float) → frameCauses channels volume samples lent ≡ eightNine (isOutside (withinOf 0 255 volume)) (not (frameFits channels samples lent))
-frame-causes channels volume samples lent = λ i. eightNine (within-is 0 255 volume i) (misfit-is channels samples lent i)
+one-more : (v : Natural) (s : Volumes) → isOutside v || not (areNumbers s) ≡ not (areNumbers (andVolume v s))
+one-more Outside s = refl
+one-more (Number n) outsideSet = refl
+one-more (Number n) (numberSet ns) = refl
+
+pub set-is : (volumes : List ℤ) → anyOutside volumes ≡ not (areNumbers (numbersOf volumes))
+unfolding numbersOf
+set-is [] = refl
+set-is (volume ∷ volumes) = (λ i. within-is 0 255 volume i || set-is volumes i) ∙ one-more (withinOf 0 maxInputVolume volume) (numbersOf volumes)
+
+-- causes 20, 8 and 9 from their outcomes
+abbrev pub frameCausesBy : Bool → Bool → Bool → List Cause
+frameCausesBy a b c = record { number = 20; holds = a } ∷ record { number = 8; holds = b } ∷ record { number = 9; holds = c } ∷ []
+
+pub frame-causes : (channels : ℕ) (volumes : List ℤ) (samples : ℕ) (lent : List Float)
+    → frameCauses channels volumes samples lent ≡ frameCausesBy (not (eqb (length volumes) channels)) (not (areNumbers (numbersOf volumes))) (not (frameFits channels samples lent))
+frame-causes channels volumes samples lent = λ i. frameCausesBy (not (eqb (length volumes) channels)) (set-is volumes i) (misfit-is channels samples lent i)

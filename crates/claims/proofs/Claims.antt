@@ -27,6 +27,10 @@ use Rattle.claims.proofs.Equal.{equal-channels}
 use Rattle.claims.proofs.Depends.{depends-on-one, said-by-others}
 use Rattle.claims.proofs.DependsEach.{depends-on-each}
 use Rattle.claims.proofs.AsOneInCode.{as-one-in-code, as-one-in-library}
+use Rattle.claims.proofs.OneVolume.{one-volume}
+use Rattle.claims.proofs.EachTakesItsOwn.{each-takes-its-own}
+use Rattle.claims.proofs.LowestIsApplied.{lowest-is-applied}
+use Rattle.claims.proofs.Controlling.{controlling-is-lowest}
 use Rattle.claims.proofs.None.{none-exactly}
 
 pub claims : Claims
@@ -62,5 +66,9 @@ claims = record {
   depends-on-each = depends-on-each;
   as-one-in-code = as-one-in-code;
   as-one-in-library = as-one-in-library;
+  each-takes-its-own = each-takes-its-own;
+  lowest-is-applied = lowest-is-applied;
+  controlling-is-lowest = controlling-is-lowest;
+  one-volume = one-volume;
   none = none-exactly;
 }

@@ -5,13 +5,10 @@ use mathlib.Core.List.{List, [], _∷_, map}
 use Prim.Native.Nat.{ℕ, _+_, _≤_, max}
 use native.Mathlib.Omega.{arith}
 use borrow.Author.Tests.{leb-true}
-use lib.Dec.{leb, ltb}
+use lib.Dec.{leb, ltb, eqb}
 use lib.IntN.{ℤ, pos, negsuc}
 use lib.Ieee.{Float, lt}
 use lib.ListN.{length, take, drop, length-take}
-use Rattle.numbers.specs.declared.natural.Natural.{Natural}
-use Rattle.numbers.specs.declared.natural.Natural.the-variants.{Number, Outside}
-use Rattle.numbers.specs.Natural.{withinOf}
 use Rattle.numbers.proofs.Truths.{both-true}
 use Rattle.clipping_predictor_level_buffer.specs.declared.level.Level.{Level}
 use Rattle.clipping_predictor_level_buffer.specs.declared.Metrics.the-variants.{Found}
@@ -22,21 +19,21 @@ use Rattle.clipping_predictor_level_buffer.proofs.Clipped.{clipped-most}
 use Rattle.clipping_predictor_level_buffer.proofs.Counts.{counted-take}
 use Rattle.clipping_predictor_level_buffer.proofs.Sums.{later-counted, total-most}
 use Rattle.clipping_predictor.specs.declared.modes.Estimated.{Estimated}
-use Rattle.clipping_predictor.specs.Predictor.{Predictor, frameFits, enteredIf}
+use Rattle.clipping_predictor.specs.Predictor.{Predictor, frameFits}
 use Rattle.clipping_predictor.specs.AllRings.{predictedBy}
 use Rattle.mono_input_volume_controller.specs.declared.speech_level.SpeechLevel.{SpeechLevel}
-use Rattle.mono_input_volume_controller.specs.MonoState.{maxInputVolume}
 use Rattle.input_volume_controller.specs.declared.Applied.{Applied}
 use Rattle.input_volume_controller.specs.declared.Applied.the-variants.{Nothing, Volume}
 use Rattle.input_volume_controller.specs.ClippedRatio.{clippedRatio}
+use Rattle.input_volume_controller.specs.Volumes.{Volumes, outsideSet, numberSet, numbersOf}
 use Rattle.input_volume_controller.specs.Control.{Control}
 use Rattle.input_volume_controller.specs.ControlCalls.{lowerChannels}
 use Rattle.input_volume_controller.specs.Controller.{Controller}
 use Rattle.input_volume_controller.specs.Reply.{Stepped}
-use Rattle.input_volume_controller.specs.Frame.{askedOf, handleIf, handled, unlessWaiting, ifUsed, withVolumeApplied, unlessRefused, analyzeInputAudio}
+use Rattle.input_volume_controller.specs.Frame.{askedOf, handleIf, handled, unlessWaiting, ifUsed, withVolumesApplied, unlessRefused, analyzeInputAudio}
 use Rattle.input_volume_controller.specs.Recommendation.{recommendIf, unlessNone, recommendInputVolume}
-use Rattle.input_volume_controller.specs.Calls.{Call, Answer, frame, recommendation, initialise, captureSwitch, step, answers}
-use Rattle.claims.specs.Counts.{uncounted, uncountedRings, uncountedIn, heardUncounted, AlikeUncounted, CountsAreUnread, CountsWithin}
+use Rattle.input_volume_controller.specs.Calls.{Call, frame, recommendation, initialise, captureSwitch, step, answers}
+use Rattle.claims.specs.Counts.{uncountedIn, heardUncounted, AlikeUncounted, CountsAreUnread, CountsWithin}
 use Rattle.claims.proofs.Run.{runs-are-runs}
 use Rattle.claims.proofs.Uncounted.{uncountedPredictor, predicted-uncounted, twice, entered-uncounted, emptied-uncounted}
 
@@ -81,10 +78,12 @@ used-blind true samples lent c =
     alike (unlessWaiting waiting clipped) (waiting-blind waiting clipped) _ _ (λ i. record { control = c .control; predictor = entered-uncounted samples lent (c .predictor) i })
 used-blind false samples lent c = record { reply = refl; state = again (c .control) (c .predictor) }
 
-frame-blind : (v : Natural) (fits : Bool) (samples : ℕ) (lent : List Float) (c : Controller) → EqualUncounted (unlessRefused v fits samples lent (uncountedIn c)) (unlessRefused v fits samples lent c)
-frame-blind Outside fits samples lent c = record { reply = refl; state = again (c .control) (c .predictor) }
-frame-blind (Number volume) false samples lent c = record { reply = refl; state = again (c .control) (c .predictor) }
-frame-blind (Number volume) true samples lent c = used-blind (c .control .used) samples lent (withVolumeApplied volume c)
+frame-blind : (counted : Bool) (v : Volumes) (fits : Bool) (samples : ℕ) (lent : List Float) (c : Controller)
+    → EqualUncounted (unlessRefused counted v fits samples lent (uncountedIn c)) (unlessRefused counted v fits samples lent c)
+frame-blind false v fits samples lent c = record { reply = refl; state = again (c .control) (c .predictor) }
+frame-blind true outsideSet fits samples lent c = record { reply = refl; state = again (c .control) (c .predictor) }
+frame-blind true (numberSet volumes) false samples lent c = record { reply = refl; state = again (c .control) (c .predictor) }
+frame-blind true (numberSet volumes) true samples lent c = used-blind (c .control .used) samples lent (withVolumesApplied volumes c)
 
 recommended-blind : (used : Bool) (applied : ℕ) (probability : Float) (level : SpeechLevel) (c : Controller) → EqualUncounted (recommendIf used applied probability level (uncountedIn c)) (recommendIf used applied probability level c)
 recommended-blind true applied probability level c = record { reply = refl; state = again _ (c .predictor) }
@@ -96,7 +95,8 @@ asked-blind (Volume applied) probability level c = recommended-blind (c .control
 
 step-blind : (call : Call) (c : Controller) → EqualUncounted (step (uncountedIn c) call) (step c call)
 unfolding analyzeInputAudio recommendInputVolume
-step-blind (frame volume samples lent) c = frame-blind (withinOf 0 maxInputVolume volume) (frameFits (length (c .control .channels)) samples lent) samples lent c
+step-blind (frame volumes samples lent) c =
+    frame-blind (eqb (length volumes) (length (c .control .channels))) (numbersOf volumes) (frameFits (length (c .control .channels)) samples lent) samples lent c
 step-blind (recommendation probability level) c = asked-blind (c .control .applied) probability level c
 step-blind initialise c = record { reply = refl; state = again _ (c .predictor) }
 step-blind (captureSwitch on) c = record { reply = refl; state = again _ (c .predictor) }

@@ -4,30 +4,28 @@ use mathlib.Core.Bool.{Bool, true, false}
 use mathlib.Core.List.{List, [], _∷_}
 use Prim.Native.Nat.{ℕ, _<_}
 use native.Mathlib.Omega.{arith}
+use lib.Dec.{eqb}
 use lib.Ieee.{Float}
-use lib.ListN.{length, getD, replicate, getD-replicate, length-replicate}
-use Rattle.numbers.specs.declared.natural.Natural.{Natural}
-use Rattle.numbers.specs.declared.natural.Natural.the-variants.{Number, Outside}
-use Rattle.numbers.specs.Natural.{withinOf}
+use lib.ListN.{length, getD, replicate, getD-replicate}
 use Rattle.clipping_predictor.specs.Predictor.{frameFits}
 use Rattle.mono_input_volume_controller.specs.declared.mono.MonoInputVolumeController.{MonoInputVolumeController}
 use Rattle.mono_input_volume_controller.specs.declared.speech_level.SpeechLevel.{SpeechLevel}
-use Rattle.mono_input_volume_controller.specs.MonoState.{maxInputVolume}
 use Rattle.input_volume_controller.specs.declared.Applied.{Applied}
 use Rattle.input_volume_controller.specs.declared.Applied.the-variants.{Nothing, Volume}
+use Rattle.input_volume_controller.specs.Volumes.{Volumes, outsideSet, numberSet, numbersOf}
 use Rattle.input_volume_controller.specs.Channels.{noChannel}
 use Rattle.input_volume_controller.specs.Control.{withVolume}
-use Rattle.input_volume_controller.specs.ControlCalls.{aggregated, withAppliedInputVolume, initialize, processChannels}
+use Rattle.input_volume_controller.specs.ControlCalls.{aggregated, withAppliedInputVolumes, initialize, processChannels}
 use Rattle.input_volume_controller.specs.Controller.{Controller, freshWith}
 use Rattle.input_volume_controller.specs.Reply.{Stepped}
 use Rattle.input_volume_controller.specs.Frame.{unlessRefused, analyzeInputAudio}
 use Rattle.input_volume_controller.specs.Recommendation.{recommendIf, unlessNone, recommendInputVolume}
 use Rattle.input_volume_controller.specs.Calls.{Call, frame, recommendation, initialise, captureSwitch, step, answers}
 use Rattle.claims.specs.Equal.{AsOne}
-use Rattle.claims.specs.Depends.{History, standing, settings, oneChannel, rings, sinceClipping, pendingVolume, stateOf, AgreeInAll, ReplyAlike, DependsOnOne, SaidByOthers}
+use Rattle.claims.specs.Depends.{History, standing, Even, settings, oneChannel, rings, sinceClipping, pendingVolume, stateOf, AgreeInAll, ReplyAlike, DependsOnOne, SaidByOthers}
 use Rattle.claims.proofs.Every.{every-at}
 use Rattle.claims.proofs.Equal.{equal-channels}
-use Rattle.claims.proofs.Kept.{kept-fresh, kept-after}
+use Rattle.claims.proofs.Kept.{count-of, kept-fresh, kept-after}
 use Rattle.claims.proofs.Switch.{IsUsed, Follows, follows-after}
 
 -- ---- one call
@@ -42,11 +40,13 @@ record EqualBare (a b : Stepped) : Type 0 where
   state : bare (a .state) ≡ bare (b .state)
 
 -- each call does with the bare controller what it does with the whole
-bare-frame : (v : Natural) (fits : Bool) (samples : ℕ) (lent : List Float) (c : Controller) → EqualBare (unlessRefused v fits samples lent (bare c)) (unlessRefused v fits samples lent c)
-unfolding withAppliedInputVolume aggregated
-bare-frame Outside fits samples lent c = record { reply = refl; state = refl }
-bare-frame (Number volume) false samples lent c = record { reply = refl; state = refl }
-bare-frame (Number volume) true samples lent c = record { reply = refl; state = refl }
+bare-frame : (counted : Bool) (v : Volumes) (fits : Bool) (samples : ℕ) (lent : List Float) (c : Controller)
+    → EqualBare (unlessRefused counted v fits samples lent (bare c)) (unlessRefused counted v fits samples lent c)
+unfolding withAppliedInputVolumes aggregated
+bare-frame false v fits samples lent c = record { reply = refl; state = refl }
+bare-frame true outsideSet fits samples lent c = record { reply = refl; state = refl }
+bare-frame true (numberSet volumes) false samples lent c = record { reply = refl; state = refl }
+bare-frame true (numberSet volumes) true samples lent c = record { reply = refl; state = refl }
 
 bare-recommends : (used : Bool) (applied : ℕ) (probability : Float) (level : SpeechLevel) (c : Controller)
     → EqualBare (recommendIf used applied probability level (bare c)) (recommendIf used applied probability level c)
@@ -60,7 +60,8 @@ bare-asked (Volume applied) probability level c = bare-recommends (c .control .u
 
 bare-step : (c : Controller) (call : Call) → EqualBare (step (bare c) call) (step c call)
 unfolding analyzeInputAudio recommendInputVolume initialize aggregated
-bare-step c (frame volume samples lent) = bare-frame (withinOf 0 maxInputVolume volume) (frameFits (length (c .control .channels)) samples lent) samples lent c
+bare-step c (frame volumes samples lent) =
+    bare-frame (eqb (length volumes) (length (c .control .channels))) (numbersOf volumes) (frameFits (length (c .control .channels)) samples lent) samples lent c
 bare-step c (recommendation probability level) = bare-asked (c .control .applied) probability level c
 bare-step c initialise = record { reply = refl; state = refl }
 bare-step c (captureSwitch on) = record { reply = refl; state = refl }
@@ -86,36 +87,39 @@ bare-replies a b e (call ∷ calls) =
 
 -- ---- one channel
 
--- what a past leaves: channels as one, a ring for each, and the switch that each of them has
+-- what a past leaves, with any sets: so many channels, a ring for each, and the switch that each of them has
 pub record Left (n : ℕ) (c : Controller) : Type 0 where
-  pub one : AsOne n (c .control)
+  pub channels : length (c .control .channels) ≡ n
   pub count : length (c .predictor .rings) ≡ n
   pub follows : Follows (c .control)
 
 pub left : (h : History) → Left (h .channels) (standing h)
 left h =
     let fresh = freshWith (h .predictor) (h .settings) (h .channels) in
+    let kept = kept-after (h .predictor) (h .settings) (h .channels) (h .calls) fresh (kept-fresh (h .predictor) (h .settings) (h .channels)) in
     record {
-      one = equal-channels (h .predictor) (h .settings) (h .channels) (h .calls);
-      count = kept-after (h .predictor) (h .settings) (h .channels) (h .calls) fresh (kept-fresh (h .predictor) (h .settings) (h .channels)) .count;
+      channels = count-of (h .settings) (h .channels) (standing h .control) (kept .control);
+      count = kept .count;
       follows = follows-after (h .predictor) (h .settings) (h .channels) (h .calls);
     }
 
-module _ (n : ℕ) (c : Controller) (l : Left n c) (channel : ℕ) (inside : channel < n) where
-  -- any channel is the one that all are
-  is-one : stateOf channel c ≡ l .one .state
-  is-one = ap (λ (ms : List MonoInputVolumeController). getD ms channel noChannel) (l .one .equal) ∙ getD-replicate n channel (l .one .state) noChannel inside
+is-switch : (n : ℕ) (c : Controller) → Left n c → (channel : ℕ) → channel < n → stateOf channel c .used ≡ c .control .used
+is-switch n c l channel inside = every-at (IsUsed (c .control .used)) (c .control .channels) channel noChannel (l .follows) (omega (arith, l .channels, inside))
 
-  pub is-switch : stateOf channel c .used ≡ c .control .used
-  is-switch = every-at (IsUsed (c .control .used)) (c .control .channels) channel noChannel (l .follows) (omega (arith, ap length (l .one .equal), length-replicate n (l .one .state), inside))
+-- where all are one, any channel is that one
+is-one : (n : ℕ) (c : Controller) (o : AsOne n (c .control)) (channel : ℕ) → channel < n → stateOf channel c ≡ o .state
+is-one n c o channel inside = ap (λ (ms : List MonoInputVolumeController). getD ms channel noChannel) (o .equal) ∙ getD-replicate n channel (o .state) noChannel inside
+
+pub all-as-one : (h : History) → Even h → AsOne (h .channels) (standing h .control)
+all-as-one h even = equal-channels (h .predictor) (h .settings) (h .channels) (h .calls) even
 
 -- two that agree in one channel's state and the rest are equal but for their volumes and controlling channels
-pub agree-bare : (n m : ℕ) (a b : Controller) → Left n a → Left m b → (channel : ℕ) → channel < n → AgreeInAll channel a b → bare a ≡ bare b
-agree-bare n m a b x y channel inside g =
+agree-bare : (n m : ℕ) (a b : Controller) → Left n a → Left m b → AsOne n (a .control) → AsOne m (b .control) → (channel : ℕ) → channel < n → AgreeInAll channel a b → bare a ≡ bare b
+agree-bare n m a b x y o q channel inside g =
     let same : n ≡ m = sym (x .count) ∙ ap length (g rings) ∙ y .count in
     let there : channel < m = omega (arith, same, inside) in
-    let state : x .one .state ≡ y .one .state = sym (is-one n a x channel inside) ∙ g oneChannel ∙ is-one m b y channel there in
-    let channels : a .control .channels ≡ b .control .channels = x .one .equal ∙ (λ i. replicate (same i) (state i)) ∙ sym (y .one .equal) in
+    let state : o .state ≡ q .state = sym (is-one n a o channel inside) ∙ g oneChannel ∙ is-one m b q channel there in
+    let channels : a .control .channels ≡ b .control .channels = o .equal ∙ (λ i. replicate (same i) (state i)) ∙ sym (q .equal) in
     let used : a .control .used ≡ b .control .used =
     sym (is-switch n a x channel inside) ∙ ap (λ (k : MonoInputVolumeController). k .used) (g oneChannel) ∙ is-switch m b y channel there in
     λ i. record {
@@ -133,7 +137,8 @@ agree-bare n m a b x y channel inside g =
 
 -- THE CLAIMS
 pub depends-on-one : DependsOnOne
-depends-on-one one other channel inside g = bare-replies _ _ (agree-bare (one .channels) (other .channels) (standing one) (standing other) (left one) (left other) channel inside g)
+depends-on-one one other even also channel inside g =
+    bare-replies _ _ (agree-bare (one .channels) (other .channels) (standing one) (standing other) (left one) (left other) (all-as-one one even) (all-as-one other also) channel inside g)
 
 pub said-by-others : SaidByOthers
 said-by-others = record { count = λ h. left h .count; switch = λ h channel inside. is-switch (h .channels) (standing h) (left h) channel inside }

@@ -1,12 +1,16 @@
--- For each part that the replies depend on two controllers that agree in all others and do not reply alike, computed: all of one channel, with the default settings or another clipping wait. Assumes nothing.
+-- For each part that the replies depend on two controllers that agree in all others and do not reply alike, computed: all of one channel, with the default settings or another clipping wait; and two of two channels that agree in all, of which
+-- one had a set of unequal volumes. Assumes nothing.
 use mathlib.Core.Path.{_≡_, refl, sym, ap, _∙_}
 use mathlib.Core.Bool.{false}
 use mathlib.Core.List.{List, [], _∷_}
 use Prim.Native.Nat.{ℕ}
 use native.Mathlib.Omega.{arith}
-use lib.IntN.{natAbs}
-use lib.Ieee.{add, mul, div, lt, le, ofInt, ofBits}
+use lib.Dec.{eqb, eqb→eq}
+use lib.IntN.{ℤ, pos, natAbs}
+use lib.Ieee.{fin, add, mul, div, lt, le, ofInt, ofBits}
+use lib.ListN.{length}
 use Rattle.numbers.specs.Listed.{listed}
+use Rattle.numbers.specs.declared.natural.Natural.the-variants.{Number}
 use Rattle.numbers.specs.Natural.{withinOf}
 use Rattle.levels.specs.Decibels.{minus, less, atMost, within}
 use Rattle.levels.specs.FloatParts.{magnitudeOf}
@@ -19,7 +23,7 @@ use Rattle.clipping_predictor_level_buffer.specs.Metrics.{metricsOver, partialM
 use Rattle.clipping_predictor_level_buffer.specs.Statistics.{plusZero, sum, mean, largest}
 use Rattle.clipping_predictor.specs.Turned.{estimated}
 use Rattle.clipping_predictor.specs.Estimate.{dropBy, adaptiveDrop, estimateTree}
-use Rattle.clipping_predictor.specs.Predictor.{pushEach, frameFits}
+use Rattle.clipping_predictor.specs.Predictor.{maxChannels, pushEach, frameFits}
 use Rattle.mono_input_volume_controller.specs.declared.config.Config.{Config}
 use Rattle.mono_input_volume_controller.specs.declared.config.Checked.the-variants.{InOrder}
 use Rattle.mono_input_volume_controller.specs.declared.speech_level.SpeechLevel.the-variants.{Absent}
@@ -29,19 +33,24 @@ use Rattle.mono_input_volume_controller.specs.Config.{defaults, settingsFrom, s
 use Rattle.clipping_predictor_level_buffer.specs.Clipped.{countOf, clippedIn, total}
 use Rattle.clipping_predictor.specs.MostClipped.{mostClipped}
 use Rattle.input_volume_controller.specs.ClippedRatio.{clippedRatio}
-use Rattle.input_volume_controller.specs.Channels.{called, aggregateOf}
-use Rattle.input_volume_controller.specs.ControlCalls.{withAppliedInputVolume, initialize, lowerChannels}
+use Rattle.input_volume_controller.specs.Volumes.{numbersOf, lowestOf}
+use Rattle.input_volume_controller.specs.Channels.{called, eachGiven, aggregateOf}
+use Rattle.input_volume_controller.specs.ControlCalls.{withAppliedInputVolumes, initialize, lowerChannels}
 use Rattle.input_volume_controller.specs.Controller.{predictorSettings, basePredictor}
 use Rattle.input_volume_controller.proofs.Built.{base-checked}
 use Rattle.input_volume_controller.specs.Reply.{Reply}
 use Rattle.input_volume_controller.specs.Reply as Reply
 use Rattle.input_volume_controller.specs.Frame.{analyzeInputAudio}
 use Rattle.input_volume_controller.specs.Recommendation.{recommendInputVolume}
-use Rattle.input_volume_controller.specs.Calls.{Call, recommendation, initialise, captureSwitch, after, answers}
+use Rattle.input_volume_controller.specs.Calls.{Call, frame, recommendation, initialise, captureSwitch, after, answers}
+use Rattle.claims.specs.Past.{isAccepted}
+use Rattle.claims.specs.Equal.{AllEqual, EvenCall, EvenCalls}
 use Rattle.claims.specs.Depends.{History, standing, Part, settings, oneChannel, rings, sinceClipping, pendingVolume, AgreeIn, repliesIn}
-use Rattle.claims.specs.DependsEach.{Taken, Two, Needed, VolumeIsOpen, DependsOnEach}
+use Rattle.claims.specs.DependsEach.{Taken, Two, Needed, VolumeIsOpen, EvenIsNeeded, DependsOnEach}
 use Rattle.claims.specs.Sharp.{waiting}
-use Rattle.claims.proofs.Made.{taken}
+use Rattle.claims.proofs.Lists.{and-l}
+use Rattle.claims.proofs.Every.{every-any}
+use Rattle.claims.proofs.Made.{taken-of, taken}
 use Rattle.claims.proofs.OneSample.{still, loud, clipped}
 
 -- ---- controllers of one channel
@@ -55,6 +64,22 @@ InRange config = settingsOf config ≡ InOrder (settingsFrom config)
 
 by-default : (config : Config) (calls : List Call) → InRange config → Taken (madeWith config calls)
 by-default config calls e = record { config = config; predictor = basePredictor; made = taken config basePredictor (settingsFrom config) _ e (base-checked (settingsFrom config .predicts)) }
+
+-- their sets are of one volume each, so of equal ones
+alone : (volumes : List ℤ) → length volumes ≡ 1 → AllEqual volumes
+alone [] e = absurd (omega arith)
+alone (v ∷ []) e = record { volume = v; equal = refl }
+alone (v ∷ w ∷ volumes) e = absurd (omega arith)
+
+even-call : (call : Call) → EvenCall 1 call
+unfolding isAccepted
+even-call (frame volumes samples lent) = λ t. alone volumes (eqb→eq (length volumes) 1 (and-l (eqb (length volumes) 1) _ t))
+even-call (recommendation probability level) = tt
+even-call initialise = tt
+even-call (captureSwitch on) = tt
+
+even-of-one : (calls : List Call) → EvenCalls 1 calls
+even-of-one calls = every-any (EvenCall 1) even-call calls
 
 -- ---- what they reply
 
@@ -129,7 +154,7 @@ record Examples : Type 0 where
   by-pending-volume : Example pendingVolume
 
 examples : Examples
-unfolding saidBy lastIn shown listed withinOf minus less atMost within magnitudeOf Decibel.levelOf dbfs gain walk frameRecord metricsOver partialMetrics sum mean largest dropBy adaptiveDrop estimateTree pushEach frameFits estimated after answers called aggregateOf countOf clippedIn total mostClipped clippedRatio rmsErrorOf isUsers defaults settingsFrom settingsOf withAppliedInputVolume initialize lowerChannels analyzeInputAudio recommendInputVolume ofInt ofBits add mul div lt le
+unfolding saidBy lastIn shown listed withinOf minus less atMost within magnitudeOf Decibel.levelOf dbfs gain walk frameRecord metricsOver partialMetrics sum mean largest dropBy adaptiveDrop estimateTree pushEach frameFits estimated after answers called aggregateOf countOf clippedIn total mostClipped clippedRatio rmsErrorOf isUsers defaults settingsFrom settingsOf withAppliedInputVolumes lowestOf eachGiven numbersOf initialize lowerChannels analyzeInputAudio recommendInputVolume ofInt ofBits add mul div lt le
 examples = record {
   -- a clipped frame has started the wait, which is of one frame or of 300
   by-settings = record {
@@ -229,6 +254,7 @@ needed part =
     let x = example part in
     record {
       two = two x;
+      even = (even-of-one (x .one-past), even-of-one (x .other-past));
       agree = agreed (Just part) _ _ (x .agree);
       apart = λ alike. x .apart (sym (x .one-shows) ∙ ap (lastIn 256) (alike (x .calls)) ∙ x .other-shows);
     }
@@ -249,7 +275,7 @@ record Open : Type 0 where
   other-shows : standing unraised .control .volume ≡ 10
 
 open-volume : Open
-unfolding listed withinOf minus less atMost magnitudeOf Decibel.levelOf dbfs frameRecord metricsOver partialMetrics sum mean largest dropBy adaptiveDrop estimateTree pushEach frameFits estimated after called aggregateOf countOf clippedIn total mostClipped clippedRatio defaults settingsFrom settingsOf withAppliedInputVolume initialize lowerChannels analyzeInputAudio ofInt ofBits add mul div lt le
+unfolding listed withinOf minus less atMost magnitudeOf Decibel.levelOf dbfs frameRecord metricsOver partialMetrics sum mean largest dropBy adaptiveDrop estimateTree pushEach frameFits estimated after called aggregateOf countOf clippedIn total mostClipped clippedRatio defaults settingsFrom settingsOf withAppliedInputVolumes lowestOf eachGiven numbersOf initialize lowerChannels analyzeInputAudio ofInt ofBits add mul div lt le
 open-volume = record {
   agree = record { in-settings = λ h. (refl, refl); in-one-channel = λ h. refl; in-rings = λ h. refl; in-since-clipping = λ h. refl; in-pending-volume = λ h. refl };
   one-taken = refl;
@@ -260,10 +286,63 @@ open-volume = record {
 volume-is-open : VolumeIsOpen
 volume-is-open = record {
   two = record { one = raised; other = unraised; one-taken = by-default defaults _ (open-volume .one-taken); other-taken = by-default defaults _ (open-volume .one-taken) };
+  even = (even-of-one (raised .calls), even-of-one (unraised .calls));
   agree = λ same. agreed Never raised unraised (open-volume .agree) same (λ none. none);
   apart = λ e. omega (arith, e, open-volume .one-shows, open-volume .other-shows);
 }
 
+-- ---- sets of unequal volumes
+
+-- controllers of two channels, and frames of one sample for each
+abbrev ofTwo : List Call → History
+ofTwo calls = record { predictor = predictorSettings (settingsFrom defaults .predicts); settings = settingsFrom defaults; channels = 2; calls = calls }
+
+abbrev stillAt : ℕ → ℕ → Call
+stillAt one other = frame (pos one ∷ pos other ∷ []) 1 (plusZero ∷ plusZero ∷ [])
+
+abbrev clippedAt : ℕ → Call
+clippedAt volume = frame (pos volume ∷ pos volume ∷ []) 1 (fin false 32767 (pos 0) ∷ fin false 32767 (pos 0) ∷ [])
+
+-- A recommendation has left each channel the volume that it had. A clipped frame at 100 lowers a channel that was left 100, but not one that was left 50: there the volume is taken as the user's.
+abbrev uneven : History
+uneven = ofTwo (stillAt 50 100 ∷ silent ∷ [])
+
+abbrev even : History
+even = ofTwo (stillAt 50 50 ∷ silent ∷ [])
+
+record Uneven : Type 0 where
+  agree : Facts Never uneven even
+  in-range : InRange defaults
+  two-channels : withinOf 1 maxChannels (pos 2) ≡ Number 2
+  one-shows : shown uneven (clippedAt 100 ∷ silent ∷ []) ≡ 85
+  other-shows : shown even (clippedAt 100 ∷ silent ∷ []) ≡ 100
+
+uneven-apart : Uneven
+unfolding saidBy lastIn shown listed withinOf minus less atMost within magnitudeOf Decibel.levelOf dbfs gain walk frameRecord metricsOver partialMetrics sum mean largest dropBy adaptiveDrop estimateTree pushEach frameFits estimated after answers called aggregateOf countOf clippedIn total mostClipped clippedRatio rmsErrorOf isUsers defaults settingsFrom settingsOf withAppliedInputVolumes lowestOf eachGiven numbersOf initialize lowerChannels analyzeInputAudio recommendInputVolume ofInt ofBits add mul div lt le
+uneven-apart = record {
+  agree = record { in-settings = λ h. (refl, refl); in-one-channel = λ h. refl; in-rings = λ h. refl; in-since-clipping = λ h. refl; in-pending-volume = λ h. refl };
+  in-range = refl;
+  two-channels = refl;
+  one-shows = refl;
+  other-shows = refl;
+}
+
+taken-two : (calls : List Call) → Taken (ofTwo calls)
+taken-two calls = record {
+  config = defaults;
+  predictor = basePredictor;
+  made = taken-of 2 defaults basePredictor (settingsFrom defaults) _ (uneven-apart .two-channels) (uneven-apart .in-range) (base-checked (settingsFrom defaults .predicts));
+}
+
+even-is-needed : EvenIsNeeded
+unfolding shown
+even-is-needed = record {
+  two = record { one = uneven; other = even; one-taken = taken-two _; other-taken = taken-two _ };
+  even = (λ t. record { volume = pos 50; equal = refl }, (tt, tt));
+  agree = λ same. agreed Never uneven even (uneven-apart .agree) same (λ none. none);
+  apart = λ alike. let e = sym (uneven-apart .one-shows) ∙ ap (lastIn 256) (alike (clippedAt 100 ∷ silent ∷ [])) ∙ uneven-apart .other-shows in omega (arith, e);
+}
+
 -- THE CLAIM
 pub depends-on-each : DependsOnEach
-depends-on-each = record { needed = needed; volume-is-open = volume-is-open }
+depends-on-each = record { needed = needed; volume-is-open = volume-is-open; even-is-needed = even-is-needed }

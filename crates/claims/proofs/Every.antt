@@ -33,6 +33,10 @@ module _ {A : Type 0} (P : A → Type 0) where
   every-listed f zero h = tt
   every-listed f (suc n) h = (h 0 (omega arith), every-listed (λ i. f (suc i)) n (λ i k. h (suc i) (omega arith)))
 
+  pub every-any : ((x : A) → P x) → (xs : List A) → Every P xs
+  every-any h [] = tt
+  every-any h (x ∷ xs) = (h x, every-any h xs)
+
   pub every-map : {B : Type 0} (Q : B → Type 0) (f : A → B) (xs : List A) → ((x : A) → P x → Q (f x)) → Every P xs → Every Q (map f xs)
   every-map Q f [] h a = tt
   every-map Q f (x ∷ xs) h a = (h x (a .0), every-map Q f xs h (a .1))

@@ -18,8 +18,9 @@ use Rattle.mono_input_volume_controller.specs.Mono.{isUsers}
 use Rattle.clipping_predictor_level_buffer.specs.Clipped.{countOf, clippedIn, total}
 use Rattle.clipping_predictor.specs.MostClipped.{mostClipped}
 use Rattle.input_volume_controller.specs.ClippedRatio.{clippedRatio}
-use Rattle.input_volume_controller.specs.Channels.{called, aggregateOf}
-use Rattle.input_volume_controller.specs.ControlCalls.{withAppliedInputVolume, lowerChannels}
+use Rattle.input_volume_controller.specs.Volumes.{numbersOf, lowestOf}
+use Rattle.input_volume_controller.specs.Channels.{called, eachGiven, aggregateOf}
+use Rattle.input_volume_controller.specs.ControlCalls.{withAppliedInputVolumes, lowerChannels}
 use Rattle.input_volume_controller.specs.Controller.{makingWith}
 use Rattle.input_volume_controller.specs.Differ.{differ}
 use Rattle.input_volume_controller.specs.Frame.{analyzeInputAudio}
@@ -30,5 +31,5 @@ use Rattle.claims.specs.ExampleLines.{bytesOf, ExampleLines}
 
 -- THE CLAIM
 pub example-lines : ExampleLines
-unfolding bytesOf linesOf isDigit digit areDigits numberAfter signed16 areSamples samplesIn headIsGood isFramed isWellFormed fieldsOf meaning digitCharacter decimal volumeText numberText textOf textOfLines startController outputOf lineStep volumeIn makingWith Predictors.settingsOf Predictors.checked Predictors.levelsInRange atLeastOf defaults settingsOf analyzeInputAudio recommendInputVolume withinOf listed frameFits countOf clippedIn total mostClipped clippedRatio called isUsers aggregateOf withAppliedInputVolume lowerChannels pushEach partialMetrics estimateTree estimated differ ofInt ofBits div le
+unfolding bytesOf linesOf isDigit digit areDigits numberAfter signed16 areSamples samplesIn headIsGood isFramed isWellFormed fieldsOf meaning digitCharacter decimal volumeText numberText textOf textOfLines startController outputOf lineStep volumeIn makingWith Predictors.settingsOf Predictors.checked Predictors.levelsInRange atLeastOf defaults settingsOf analyzeInputAudio recommendInputVolume withinOf listed frameFits countOf clippedIn total mostClipped clippedRatio called isUsers aggregateOf withAppliedInputVolumes lowestOf eachGiven numbersOf lowerChannels pushEach partialMetrics estimateTree estimated differ ofInt ofBits div le
 example-lines = refl

@@ -1,17 +1,17 @@
 -- For all settings, every channel count and every predictor whose threshold silence does not pass there is a lead-in with exactly as many accepted frames as the claim asks: frames of silence. Assumes nothing.
-use mathlib.Core.Path.{_≡_, refl, sym, ap, _∙_}
-use mathlib.Core.List.{List, [], _∷_}
+use mathlib.Core.Path.{_≡_, refl, sym, ap, _∙_, subst}
+use mathlib.Core.List.{List, [], _∷_, map}
 use mathlib.Core.Bool.{Bool, true, false, not, cond, _&&_, _||_}
 use Prim.Native.Nat.{ℕ, zero, suc, _-_, _*_, _≤_, _<_}
 use native.Mathlib.Nat.{le-of-eq, not-suc-le-zero}
 use native.Mathlib.Omega.{arith}
-use lib.Dec.{T, lit≤, ltb, ltb→lt}
+use lib.Dec.{T, leb, eqb, ltb, ltb→lt}
 use borrow.Author.Tests.{lt-leb}
 use lib.IntN.{ℤ, pos, negsuc}
 use lib.Signed.{ltZ, leZ}
 use lib.Ieee.{Float, nan, inf, fin, up, down, le, lt, eq, ofInt}
 use lib.Ieee.Fits.{eq→eqb}
-use lib.ListN.{take, drop, replicate, length-replicate}
+use lib.ListN.{length, length-map, take, drop, replicate, length-replicate}
 use Rattle.numbers.proofs.Truths.{and-false}
 use Rattle.numbers.specs.Natural.{withinOf}
 use Rattle.numbers.specs.Listed.{listed}
@@ -26,12 +26,14 @@ use Rattle.clipping_predictor.specs.declared.settings.Settings as Predictor
 use Rattle.clipping_predictor.specs.Predictor.{partOf, levelsOf, frameFits}
 use Rattle.mono_input_volume_controller.specs.declared.speech_level.SpeechLevel.the-variants.{Absent}
 use Rattle.clipping_predictor_level_buffer.specs.Clipped.{oneIf}
+use Rattle.input_volume_controller.specs.Volumes.{Volumes, areNumbers, numbersOf}
 use Rattle.input_volume_controller.specs.Calls.{Call, frame}
+use Rattle.input_volume_controller.proofs.SetNumbers.{equal-numbers}
 use Rattle.claims.specs.Past.{isAccepted}
 use Rattle.claims.specs.LeadIn.{all, acceptedBy, acceptedIn, isQuiet, quiet, isSound, comparedIn, isLow, quietFor, isCalm}
 use Rattle.claims.specs.TwoPasts.{enough, enoughFor}
 use Rattle.claims.specs.Sharp.{LeadInOf, silent, LeadInsExist}
-use Rattle.claims.proofs.Lists.{and-both, all-listed, is-true}
+use Rattle.claims.proofs.Lists.{and-both, all-listed, is-true, map-replicate}
 use Rattle.claims.proofs.QuietSamples.{sound}
 
 pub all-replicate : {A : Type 0} (f : A → Bool) (n : ℕ) (a : A) → T (f a) → T (all f (replicate n a))
@@ -48,13 +50,20 @@ unfolding acceptedIn
 accepted-replicate channels zero call e = refl
 accepted-replicate channels (suc n) call e = let r = accepted-replicate channels n call e in omega (arith, e, r)
 
--- a frame of one sample of zero for each channel
+hundreds-numbers : (n : ℕ) → T (areNumbers (numbersOf (map pos (replicate n 100))))
+unfolding withinOf
+hundreds-numbers n = subst (λ (s : Volumes). T (areNumbers s)) (sym (ap numbersOf (map-replicate pos n 100) ∙ equal-numbers (pos 100) 100 n refl)) tt
+
+-- a frame of one sample of zero for each channel, each at the volume 100
 module _ (channels : ℕ) where
   abbrev silence : List Float
   silence = replicate channels plusZero
 
+  abbrev hundreds : List ℕ
+  hundreds = replicate channels 100
+
   abbrev silentFrame : Call
-  silentFrame = frame (pos 100) 1 silence
+  silentFrame = frame (map pos hundreds) 1 silence
 
   silence-fits : T (frameFits channels 1 silence)
   unfolding frameFits
@@ -63,20 +72,22 @@ module _ (channels : ℕ) where
       once : (n : ℕ) → n ≡ n * 1
       once n = omega arith
 
-  silence-accepted : T (isAccepted channels (pos 100) 1 silence)
-  unfolding isAccepted withinOf
-  silence-accepted = silence-fits
+  silence-accepted : T (isAccepted channels (map pos hundreds) 1 silence)
+  unfolding isAccepted
+  silence-accepted =
+      and-both (eqb (length (map pos hundreds)) channels) _ (eq→eqb (length-map hundreds pos ∙ length-replicate channels 100))
+      (and-both (areNumbers (numbersOf (map pos hundreds))) (frameFits channels 1 silence) (hundreds-numbers channels) silence-fits)
 
   one-accepted : acceptedBy channels silentFrame ≡ 1
   unfolding acceptedBy
-  one-accepted = ap oneIf (is-true (isAccepted channels (pos 100) 1 silence) silence-accepted)
+  one-accepted = ap oneIf (is-true (isAccepted channels (map pos hundreds) 1 silence) silence-accepted)
 
 -- ---- for every test that silence passes
 
 module _ (channels : ℕ) (isStill : ℕ → List Float → Bool) (passes : T (isStill 1 (silence channels))) where
   silence-calm : T (isCalm channels isStill (silentFrame channels))
   unfolding isCalm
-  silence-calm = or-right (not (isAccepted channels (pos 100) 1 (silence channels))) (isStill 1 (silence channels)) passes
+  silence-calm = or-right (not (isAccepted channels (map pos (hundreds channels)) 1 (silence channels))) (isStill 1 (silence channels)) passes
 
   silent-lead : (frames : ℕ) → LeadInOf channels isStill frames
   unfolding all
@@ -87,7 +98,7 @@ module _ (channels : ℕ) (isStill : ℕ → List Float → Bool) (passes : T (i
           afterInitialise = [];
           afterFrame = [];
           afterRecommendation = [];
-          volume = 100;
+          volumes = hundreds channels;
           samples = 1;
           lent = silence channels;
           probability = plusZero;
@@ -96,7 +107,7 @@ module _ (channels : ℕ) (isStill : ℕ → List Float → Bool) (passes : T (i
           long = le-of-eq (sym exactly);
           accepted = silence-accepted channels;
           still = passes;
-          positive = lit≤ tt;
+          positive = all-replicate (leb 1) channels 100 tt;
           refused = tt;
         },
         exactly,

@@ -6,13 +6,10 @@ use mathlib.Core.List.{List, [], _∷_, map}
 use Prim.Native.Nat.{ℕ, zero, suc, _≤_, _<_, max, zero-le}
 use native.Mathlib.Nat.{le-refl}
 use native.Mathlib.Omega.{arith}
-use lib.Dec.{ltb}
+use lib.Dec.{ltb, eqb}
 use borrow.Author.Tests.{ltb-true}
 use lib.Ieee.{Float, lt}
 use lib.ListN.{length, replicate, length-take, length-map, length-replicate}
-use Rattle.numbers.specs.declared.natural.Natural.{Natural}
-use Rattle.numbers.specs.declared.natural.Natural.the-variants.{Number, Outside}
-use Rattle.numbers.specs.Natural.{withinOf}
 use Rattle.clipping_predictor_level_buffer.specs.declared.level.Level.{Level}
 use Rattle.clipping_predictor.specs.declared.modes.Estimated.{Estimated}
 use Rattle.clipping_predictor.specs.declared.settings.Settings as Predictor
@@ -23,17 +20,18 @@ use Rattle.mono_input_volume_controller.specs.declared.speech_level.SpeechLevel
 use Rattle.input_volume_controller.specs.declared.Applied.{Applied}
 use Rattle.input_volume_controller.specs.declared.Applied.the-variants.{Nothing, Volume}
 use Rattle.input_volume_controller.specs.ClippedRatio.{clippedRatio}
-use Rattle.mono_input_volume_controller.specs.MonoState.{maxInputVolume}
 use Rattle.mono_input_volume_controller.specs.Mono.{created}
 use Rattle.input_volume_controller.specs.Control.{Control}
-use Rattle.input_volume_controller.specs.ControlCalls.{aggregated, withAppliedInputVolume, initialize, switchCapture, lowerChannels, processChannels}
+use Rattle.input_volume_controller.specs.ControlCalls.{aggregated, withAppliedInputVolumes, initialize, switchCapture, lowerChannels, processChannels}
 use Rattle.input_volume_controller.specs.Controller.{Controller, freshWith}
 use Rattle.clipping_predictor.specs.AllRings.{predictedBy}
+use Rattle.input_volume_controller.specs.Volumes.{Volumes, outsideSet, numberSet, numbersOf}
 use Rattle.input_volume_controller.specs.Frame.{askedOf, handleIf, unlessWaiting, ifUsed, unlessRefused, analyzeInputAudio}
 use Rattle.input_volume_controller.specs.Recommendation.{recommendIf, unlessNone, recommendInputVolume}
 use Rattle.input_volume_controller.specs.Calls.{Call, frame, recommendation, initialise, captureSwitch, step, after}
 use Rattle.claims.proofs.Lists.{map-replicate}
 use Rattle.claims.proofs.Cores.{core, cores-called}
+use Rattle.claims.proofs.Sets.{cores-given}
 
 -- no ring stores more than its capacity
 abbrev pub Small : ℕ → List (List Level) → Type 0
@@ -80,9 +78,9 @@ module _ (s : Settings) (n : ℕ) where
   kept-switch : (on : Bool) (c : Control) → KeptControl s n c → KeptControl s n (switchCapture on c)
   kept-switch on c k = record { settings = k .settings; cores = cores-called _ (c .channels) ∙ k .cores; early = k .early }
 
-  pub kept-applied : (volume : ℕ) (c : Control) → KeptControl s n c → KeptControl s n (withAppliedInputVolume volume c)
-  unfolding withAppliedInputVolume aggregated
-  kept-applied volume c k = record { settings = k .settings; cores = cores-called _ (c .channels) ∙ k .cores; early = k .early }
+  pub kept-applied : (volumes : List ℕ) (c : Control) → KeptControl s n c → KeptControl s n (withAppliedInputVolumes volumes c)
+  unfolding withAppliedInputVolumes aggregated
+  kept-applied volumes c k = record { settings = k .settings; cores = cores-given volumes (c .channels) ∙ k .cores; early = k .early }
 
   kept-lowered : (amount : ℕ) (c : Control) → KeptControl s n c → KeptControl s n (lowerChannels amount c)
   unfolding lowerChannels aggregated
@@ -159,12 +157,13 @@ module _ (p : Predictor.Settings) (s : Settings) (n : ℕ) where
       (ltb-true (c .control .since) (c .control .settings .«clipped_wait»)) (kept-entered samples lent c k)
   kept-used false samples lent c k = k
 
-  kept-frame : (volume : Natural) (fits : Bool) (samples : ℕ) (lent : List Float) (c : Controller) → K c → K (unlessRefused volume fits samples lent c .state)
-  kept-frame Outside fits samples lent c k = k
-  kept-frame (Number volume) false samples lent c k = k
-  kept-frame (Number volume) true samples lent c k =
-      kept-used (c .control .used) samples lent (record { control = withAppliedInputVolume volume (c .control); predictor = c .predictor })
-      (with-control (withAppliedInputVolume volume (c .control)) c (kept-applied s n volume (c .control) (k .control)) k)
+  kept-frame : (counted : Bool) (volumes : Volumes) (fits : Bool) (samples : ℕ) (lent : List Float) (c : Controller) → K c → K (unlessRefused counted volumes fits samples lent c .state)
+  kept-frame false volumes fits samples lent c k = k
+  kept-frame true outsideSet fits samples lent c k = k
+  kept-frame true (numberSet volumes) false samples lent c k = k
+  kept-frame true (numberSet volumes) true samples lent c k =
+      kept-used (c .control .used) samples lent (record { control = withAppliedInputVolumes volumes (c .control); predictor = c .predictor })
+      (with-control (withAppliedInputVolumes volumes (c .control)) c (kept-applied s n volumes (c .control) (k .control)) k)
 
   kept-recommended : (t : Bool) (applied : ℕ) (probability : Float) (level : SpeechLevel) (c : Controller) → K c → K (recommendIf t applied probability level c .state)
   kept-recommended true applied probability level c k =
@@ -178,7 +177,8 @@ module _ (p : Predictor.Settings) (s : Settings) (n : ℕ) where
 
   pub kept-step : (call : Call) (c : Controller) → K c → K (step c call .state)
   unfolding analyzeInputAudio recommendInputVolume
-  kept-step (frame volume samples lent) c k = kept-frame (withinOf 0 maxInputVolume volume) (frameFits (length (c .control .channels)) samples lent) samples lent c k
+  kept-step (frame volumes samples lent) c k =
+      kept-frame (eqb (length volumes) (length (c .control .channels))) (numbersOf volumes) (frameFits (length (c .control .channels)) samples lent) samples lent c k
   kept-step (recommendation probability level) c k = kept-asked (c .control .applied) probability level c k
   kept-step initialise c k = with-control _ c (kept-initialize s n (c .control) (k .control)) k
   kept-step (captureSwitch on) c k = with-control _ c (kept-switch s n on (c .control) (k .control)) k

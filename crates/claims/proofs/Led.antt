@@ -14,7 +14,7 @@ use Rattle.clipping_predictor.specs.declared.settings.Settings as Predictor
 use Rattle.clipping_predictor.specs.Estimate.{capacityOf}
 use Rattle.clipping_predictor.specs.Predictor.{enteredIf}
 use Rattle.mono_input_volume_controller.specs.declared.config.Settings.{Settings}
-use Rattle.input_volume_controller.specs.ControlCalls.{aggregated, withAppliedInputVolume, lowerChannels}
+use Rattle.input_volume_controller.specs.ControlCalls.{aggregated, withAppliedInputVolumes, lowerChannels}
 use Rattle.input_volume_controller.specs.Controller.{Controller}
 use Rattle.clipping_predictor.specs.AllRings.{predictedBy}
 use Rattle.input_volume_controller.specs.Frame.{askedOf, handleIf, unlessWaiting}
@@ -23,9 +23,9 @@ use Rattle.claims.specs.LeadIn.{isLow}
 use Rattle.claims.proofs.Rings.{Match, match-empty}
 use Rattle.claims.proofs.Silent.{none-predicted}
 
--- a frame's volume is set, and its levels enter the rings
-abbrev pub entered : ℕ → ℕ → List Float → Controller → Controller
-entered volume samples lent c = record { control = withAppliedInputVolume volume (c .control); predictor = enteredIf true samples lent (c .predictor) }
+-- a frame's volumes are set, and its levels enter the rings
+abbrev pub entered : List ℕ → ℕ → List Float → Controller → Controller
+entered volumes samples lent c = record { control = withAppliedInputVolumes volumes (c .control); predictor = enteredIf true samples lent (c .predictor) }
 
 -- After k quiet frames that gave the records `grown`: m of them came since the rings were last emptied, and at most `window` - 1 before.
 pub record Led (p : Predictor.Settings) (s : Settings) (grown : List (List Level)) (k : ℕ) (c : Controller) : Type 0 where

@@ -10,6 +10,7 @@ pub mod Walk
 pub mod Newest
 pub mod Capture
 pub mod None
+pub mod Lowest
 pub mod Equal
 pub mod Sound
 pub mod Fresh
@@ -30,6 +31,7 @@ pub mod GainTable
 pub mod Starred
 pub mod Lists
 pub mod Cores
+pub mod Sets
 pub mod Kept
 pub mod Share
 pub mod Rings
@@ -60,6 +62,10 @@ pub mod Switch
 pub mod Depends
 pub mod DependsEach
 pub mod AsOneInCode
+pub mod OneVolume
+pub mod EachTakesItsOwn
+pub mod LowestIsApplied
+pub mod Controlling
 pub mod Accepted
 pub mod Needed
 pub mod ExampleLines

@@ -81,12 +81,12 @@ unfolding bothInRange inRange
 minimum-is config h = natural (pos maxInputVolume) (config .«min_input_volume») (leZ (pos 0) (config .«min_input_volume»)) _ refl h
 
 -- so its volumes are sound
-pub made-sound : {v : Natural} {predictor : ClippingPredictorConfig} (config : Config) (c : Controller) → (m : MadeWith v config (settingsFrom config) predictor c) → Sound (settingsFrom config) (m .count) (c .control)
+pub made-sound : {v : Natural} {predictor : ClippingPredictorConfig} (config : Config) (c : Controller) → (m : MadeWith v config (settingsFrom config) predictor c) → Sound (settingsFrom config) (c .control)
 unfolding settingsFrom
 made-sound config c m =
     let v = both-most 255 (config .«min_input_volume») (config .«clipped_level_min») (m .volumes) in
     let w = both-most maxWait (config .«clipped_wait_frames») (config .«update_input_volume_wait_frames») (m .waits) in
-    subst (λ (d : Controller). Sound (settingsFrom config) (m .count) (d .control)) (sym (m .choice .is))
+    subst (λ (d : Controller). Sound (settingsFrom config) (d .control)) (sym (m .choice .is))
     (sound-fresh (m .choice .predictor) (settingsFrom config) (m .count) (v .0) (v .1) (omega arith) (omega (arith, w .1)))
 
 pub minimum-most : {v : Natural} {predictor : ClippingPredictorConfig} (config : Config) (c : Controller) → MadeWith v config (settingsFrom config) predictor c → settingsFrom config .least ≤ 255
@@ -120,9 +120,15 @@ made-fresh-by-default channels config h =
     let m = made-fresh channels config basePredictor h in
     m .is ∙ ap (λ (p : Predictor.Settings). freshWith p (settingsFrom config) channels) (injected (sym (m .checked) ∙ base-checked (settingsFrom config .predicts)))
 
--- ---- a making whose tests pass, of one channel
+-- ---- a making whose tests pass
 
+pub taken-of : (n : ℕ) (config : Config) (predictor : ClippingPredictorConfig) (s : Settings) (p : Predictor.Settings) → withinOf 1 maxChannels (pos n) ≡ Number n → settingsOf config ≡ InOrder s
+    → Predictors.settingsOf (switched (s .predicts) predictor) ≡ PredictorChecked.InOrder p → makingWith (pos n) config predictor ≡ record { answer = Accepted; controller = freshWith p s n }
+unfolding makingWith madeOf madeWith
+taken-of n config predictor s p h e f = (λ i. madeOf (h i) (e i) predictor) ∙ ap (madeWith n s) f
+
+-- of one channel
 pub taken : (config : Config) (predictor : ClippingPredictorConfig) (s : Settings) (p : Predictor.Settings) → settingsOf config ≡ InOrder s → Predictors.settingsOf (switched (s .predicts) predictor) ≡ PredictorChecked.InOrder p
     → makingWith (pos 1) config predictor ≡ record { answer = Accepted; controller = freshWith p s 1 }
-unfolding makingWith madeOf madeWith withinOf
-taken config predictor s p e f = ap (λ (k : Checked). madeOf (Number 1) k predictor) e ∙ ap (madeWith 1 s) f
+unfolding withinOf
+taken config predictor s p e f = taken-of 1 config predictor s p refl e f

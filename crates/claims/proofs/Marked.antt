@@ -1,17 +1,16 @@
 -- Marks are those of document 02 (iii): of an estimate by its drop or none, of a frame by the state that it returns. Assumes nothing.
 use mathlib.Core.Path.{_≡_, refl, sym, ap, _∙_, subst}
 use mathlib.Core.Logic.{_↔_}
-use mathlib.Core.Bool.{Bool, true, false, _&&_}
-use mathlib.Core.List.{List, [], _∷_, foldl}
+use mathlib.Core.Bool.{Bool, true, false}
+use mathlib.Core.List.{List, [], _∷_, map, foldl}
 use Prim.Native.Nat.{ℕ, max}
-use lib.Dec.{T, leb, ltb}
+use lib.Dec.{T, ltb, eqb}
 use lib.IntN.{pos}
 use lib.Ieee.{Float, lt, le, add, mul, div, ofInt, ofBits}
 use lib.ListN.{length}
+use borrow.Author.Tests.{eq-eqb}
 use Rattle.numbers.specs.First.{first}
 use Rattle.numbers.specs.Listed.{listed}
-use Rattle.numbers.specs.declared.natural.Natural.{Natural}
-use Rattle.numbers.specs.declared.natural.Natural.the-variants.{Number}
 use Rattle.numbers.specs.Natural.{withinOf}
 use Rattle.numbers.proofs.Signs.{clash}
 use Rattle.levels.specs.Decibels.{minus, less, atMost, within}
@@ -32,7 +31,6 @@ use Rattle.clipping_predictor.specs.Predictor.{Predictor, pushEach, frameFits, 
 use Rattle.clipping_predictor.specs.AllRings.{predictedBy}
 use Rattle.clipping_predictor.proofs.Turns.{turned-spread, spread-as, near-exactly}
 use Rattle.mono_input_volume_controller.specs.declared.speech_level.SpeechLevel.{SpeechLevel}
-use Rattle.mono_input_volume_controller.specs.MonoState.{maxInputVolume}
 use Rattle.mono_input_volume_controller.specs.Mono.{isUsers, withInputVolume, handledClipping}
 use Rattle.mono_input_volume_controller.specs.SameVolumes.{sameVolumes}
 use Rattle.mono_input_volume_controller.specs.Config.{defaults, settingsFrom}
@@ -41,19 +39,20 @@ use Rattle.input_volume_controller.specs.declared.Applied.the-variants.{Nothing
 use Rattle.clipping_predictor_level_buffer.specs.Clipped.{countOf, clippedIn, total}
 use Rattle.clipping_predictor.specs.MostClipped.{mostClipped}
 use Rattle.input_volume_controller.specs.ClippedRatio.{clippedRatio}
-use Rattle.input_volume_controller.specs.Channels.{called, aggregateOf}
-use Rattle.input_volume_controller.specs.ControlCalls.{withAppliedInputVolume, lowerChannels}
+use Rattle.input_volume_controller.specs.Volumes.{Volumes, numberSet, numbersOf, lowestOf}
+use Rattle.input_volume_controller.specs.Channels.{called, eachGiven, aggregateOf}
+use Rattle.input_volume_controller.specs.ControlCalls.{withAppliedInputVolumes, lowerChannels}
 use Rattle.input_volume_controller.specs.Controller.{Controller}
 use Rattle.input_volume_controller.specs.Differ.{otherVolumes, lowerDifferently, differ}
 use Rattle.input_volume_controller.specs.Reply.{Reply, mark, refusal, volume, none, done, Stepped}
-use Rattle.input_volume_controller.specs.Frame.{askedOf, returnedBy, unlessWaitingBy, ifUsedBy, unlessRefusedBy, unlessWaiting, ifUsed, unlessRefused, withVolumeApplied, analyzeInputAudio}
+use Rattle.input_volume_controller.specs.Frame.{askedOf, returnedBy, unlessWaitingBy, ifUsedBy, unlessRefusedBy, unlessWaiting, ifUsed, unlessRefused, withVolumesApplied, analyzeInputAudio}
 use Rattle.input_volume_controller.specs.Recommendation.{recommendIf, unlessNone, recommendInputVolume}
 use Rattle.input_volume_controller.specs.Calls.{after, step, frame, recommendation}
+use Rattle.input_volume_controller.proofs.SetNumbers.{numbers-back}
 use Rattle.input_volume_controller.proofs.Marks.{is-mark, handled-marked}
-use Rattle.claims.specs.Past.{isNumber, isAccepted}
+use Rattle.claims.specs.Past.{isAccepted}
 use Rattle.claims.specs.Marked.{MayEstimate, EstimateMatters, predictedAs, frameWith, FrameMatters, replyAfter, replyToSilence, MarkedExactly}
-use Rattle.claims.proofs.Lists.{and-l, and-r, is-true}
-use Rattle.claims.proofs.Runs.{number-is}
+use Rattle.claims.proofs.Runs.{accepted-as}
 use Rattle.claims.proofs.MayEstimate.{may-same}
 
 -- ---- an estimate
@@ -111,24 +110,28 @@ used-marked true samples lent c =
     (record { control = c .control; predictor = enteredIf true samples lent (c .predictor) })
 used-marked false samples lent c = unmarked (ifUsed false samples lent c) _ _ refl (λ drops. refl)
 
-module _ (applied samples : ℕ) (lent : List Float) (c : Controller) where
+module _ (volumes : List ℕ) (samples : ℕ) (lent : List Float) (c : Controller) where
   abbrev May : List ℕ → Type 0
-  May = MayPredict (askedOf (withAppliedInputVolume applied (c .control))) (enteredIf true samples lent (c .predictor))
+  May = MayPredict (askedOf (withAppliedInputVolumes volumes (c .control))) (enteredIf true samples lent (c .predictor))
 
-  accepted-marked : (v : Natural) (fits : Bool) → v ≡ Number applied → fits ≡ true
-      → MarkedIf (unlessRefused v fits samples lent c) May (λ (drops : List ℕ). unlessRefusedBy (predictedAs drops) v fits samples lent c)
-  accepted-marked v fits e f =
-      subst (λ (v : Natural). MarkedIf (unlessRefused v fits samples lent c) May (λ (drops : List ℕ). unlessRefusedBy (predictedAs drops) v fits samples lent c)) (sym e)
-      (subst (λ (fits : Bool). MarkedIf (unlessRefused (Number applied) fits samples lent c) May (λ (drops : List ℕ). unlessRefusedBy (predictedAs drops) (Number applied) fits samples lent c)) (sym f)
-      (used-marked (c .control .used) samples lent (withVolumeApplied applied c)))
+  -- by a frame's tests
+  abbrev MarkedBy : Bool → Volumes → Bool → Type 0
+  MarkedBy counted v fits = MarkedIf (unlessRefused counted v fits samples lent c) May (λ (drops : List ℕ). unlessRefusedBy (predictedAs drops) counted v fits samples lent c)
 
-  frame-marked : T (isAccepted (length (c .control .channels)) (pos applied) samples lent) → MarkedIf (step c (frame (pos applied) samples lent)) May (λ (drops : List ℕ). frameWith drops (pos applied) samples lent c)
-  unfolding isAccepted analyzeInputAudio withinOf
-  frame-marked t = accepted-marked (withinOf 0 maxInputVolume (pos applied)) (frameFits (length (c .control .channels)) samples lent)
-      (number-is (leb 0 applied && leb applied maxInputVolume) applied (and-l (isNumber (withinOf 0 maxInputVolume (pos applied))) (frameFits (length (c .control .channels)) samples lent) t))
-      (is-true (frameFits (length (c .control .channels)) samples lent) (and-r (isNumber (withinOf 0 maxInputVolume (pos applied))) (frameFits (length (c .control .channels)) samples lent) t))
+  accepted-marked : (counted : Bool) (v : Volumes) (fits : Bool) → counted ≡ true → v ≡ numberSet volumes → fits ≡ true → MarkedBy counted v fits
+  accepted-marked counted v fits a e f =
+      subst (λ (counted : Bool). MarkedBy counted v fits) (sym a)
+      (subst (λ (v : Volumes). MarkedBy true v fits) (sym e) (subst (λ (fits : Bool). MarkedBy true (numberSet volumes) fits) (sym f) (used-marked (c .control .used) samples lent (withVolumesApplied volumes c))))
 
-  frames-marked : T (isAccepted (length (c .control .channels)) (pos applied) samples lent) → (step c (frame (pos applied) samples lent) .reply ≡ mark true) ↔ FrameMatters c applied samples lent
+  frame-marked : T (isAccepted (length (c .control .channels)) (map pos volumes) samples lent)
+      → MarkedIf (step c (frame (map pos volumes) samples lent)) May (λ (drops : List ℕ). frameWith drops (map pos volumes) samples lent c)
+  unfolding analyzeInputAudio
+  frame-marked t =
+      let n = length (c .control .channels) in
+      let a = accepted-as n (map pos volumes) samples lent t in
+      accepted-marked (eqb (length (map pos volumes)) n) (numbersOf (map pos volumes)) (frameFits n samples lent) (eq-eqb (length (map pos volumes)) n (a .count)) (a .numbers ∙ ap numberSet (numbers-back volumes)) (a .fits)
+
+  frames-marked : T (isAccepted (length (c .control .channels)) (map pos volumes) samples lent) → (step c (frame (map pos volumes) samples lent) .reply ≡ mark true) ↔ FrameMatters c volumes samples lent
   frames-marked t =
       let m = frame-marked t in (
         λ e. let k = m .changes e in record { drops = k .0; may = k .1; changes = k .2 },
@@ -169,15 +172,15 @@ record Shown : Type 0 where
   alone : replyToSilence (pos 500) ≡ mark false
 
 computed : Shown
-unfolding listed withinOf minus less atMost within magnitudeOf Decibel.levelOf dbfs gain walk first frameRecord metricsOver partialMetrics sum mean largest dropBy adaptiveDrop estimateTree pushEach frameFits estimated lowerDifferently differ otherVolumes sameVolumes isUsers withInputVolume handledClipping after called aggregateOf countOf clippedIn total mostClipped clippedRatio defaults settingsFrom withAppliedInputVolume lowerChannels analyzeInputAudio ofInt ofBits add mul div lt le
+unfolding listed withinOf minus less atMost within magnitudeOf Decibel.levelOf dbfs gain walk first frameRecord metricsOver partialMetrics sum mean largest dropBy adaptiveDrop estimateTree pushEach frameFits estimated lowerDifferently differ otherVolumes sameVolumes isUsers withInputVolume handledClipping after called aggregateOf countOf clippedIn total mostClipped clippedRatio defaults settingsFrom withAppliedInputVolumes lowestOf eachGiven numbersOf lowerChannels analyzeInputAudio ofInt ofBits add mul div lt le
 computed = record { at-six = refl; at-seven = refl; missing = refl; alike = refl; both = refl; alone = refl }
 
 -- THE CLAIM
 pub marked-exactly : MarkedExactly
 marked-exactly = record {
   estimate = estimate-marked;
-  frames = λ c applied samples lent t. frames-marked applied samples lent c t;
-  answered = λ c applied samples lent t. let m = frame-marked applied samples lent c t in (m .near, m .is);
+  frames = λ c volumes samples lent t. frames-marked volumes samples lent c t;
+  answered = λ c volumes samples lent t. let m = frame-marked volumes samples lent c t in (m .near, m .is);
   recommendations = never-marked;
   one-marked = computed .at-six;
   one-unmarked = computed .at-seven;

@@ -4,6 +4,7 @@ use mathlib.Core.List.{List, [], _∷_, _++_}
 use Prim.Native.Nat.{ℕ}
 use native.Mathlib.Omega.{arith}
 use lib.Dec.{lit≤}
+use lib.IntN.{pos}
 use lib.Ieee.{add, mul, div, lt, le, eq, ofInt, ofBits}
 use lib.ListN.{length, replicate}
 use Rattle.numbers.specs.Listed.{listed}
@@ -30,17 +31,18 @@ use Rattle.input_volume_controller.specs.ClippedRatio.{clippedRatio}
 use Rattle.mono_input_volume_controller.specs.SpeechLevel.{rmsErrorOf}
 use Rattle.mono_input_volume_controller.specs.Mono.{isUsers}
 use Rattle.mono_input_volume_controller.specs.Config.{defaults, settingsFrom, settingsOf}
-use Rattle.input_volume_controller.specs.Channels.{called, aggregateOf}
-use Rattle.input_volume_controller.specs.ControlCalls.{withAppliedInputVolume, initialize, lowerChannels}
+use Rattle.input_volume_controller.specs.Channels.{called, eachGiven, aggregateOf}
+use Rattle.input_volume_controller.specs.Volumes.{numbersOf, lowestOf}
+use Rattle.input_volume_controller.specs.ControlCalls.{withAppliedInputVolumes, initialize, lowerChannels}
 use Rattle.input_volume_controller.specs.Controller.{fresh}
 use Rattle.input_volume_controller.specs.Frame.{analyzeInputAudio}
 use Rattle.input_volume_controller.specs.Recommendation.{recommendInputVolume}
-use Rattle.input_volume_controller.specs.Calls.{Call, recommendation, initialise, Answer, after, answers}
+use Rattle.input_volume_controller.specs.Calls.{Call, frame, recommendation, initialise, Answer, after, answers}
 use Rattle.claims.specs.Past.{isAccepted}
 use Rattle.claims.specs.LeadIn.{all, acceptedBy, acceptedIn, isQuiet, quiet, isCalm, LeadIn}
 use Rattle.claims.specs.TwoPasts.{enough, RatioFromZero}
 use Rattle.claims.specs.Sharp.{waiting}
-use Rattle.claims.specs.Needed.{withoutInitialise, withVolumeZero, withCaptureOff, PartsAreNeeded}
+use Rattle.claims.specs.Needed.{withoutInitialise, withVolumeZero, withOneZero, withCaptureOff, PartsAreNeeded}
 use Rattle.claims.proofs.OneSample.{still, clipped}
 
 abbrev settings : Settings
@@ -55,13 +57,13 @@ unfolding defaults settingsFrom ofBits le
 from-zero = tt
 
 lead : LeadIn 1 quiet (enough settings)
-unfolding settingsFrom withinOf frameFits all isAccepted acceptedBy acceptedIn isQuiet quiet isCalm ofInt le eq
+unfolding settingsFrom withinOf numbersOf frameFits all isAccepted acceptedBy acceptedIn isQuiet quiet isCalm ofInt le eq
 lead = record {
   body = replicate 14 (still 50);
   afterInitialise = [];
   afterFrame = [];
   afterRecommendation = [];
-  volume = 255;
+  volumes = 255 ∷ [];
   samples = 1;
   lent = plusZero ∷ [];
   probability = plusZero;
@@ -70,7 +72,31 @@ lead = record {
   long = lit≤ tt;
   accepted = tt;
   still = tt;
-  positive = lit≤ tt;
+  positive = tt;
+  refused = tt;
+}
+
+-- the same of two channels
+stillTwo : ℕ → Call
+stillTwo volume = frame (pos volume ∷ pos volume ∷ []) 1 (plusZero ∷ plusZero ∷ [])
+
+pair : LeadIn 2 quiet (enough settings)
+unfolding stillTwo settingsFrom withinOf numbersOf frameFits all isAccepted acceptedBy acceptedIn isQuiet quiet isCalm ofInt le eq
+pair = record {
+  body = replicate 14 (stillTwo 50);
+  afterInitialise = [];
+  afterFrame = [];
+  afterRecommendation = [];
+  volumes = 255 ∷ 255 ∷ [];
+  samples = 1;
+  lent = plusZero ∷ plusZero ∷ [];
+  probability = plusZero;
+  level = Absent;
+  calm = tt;
+  long = lit≤ tt;
+  accepted = tt;
+  still = tt;
+  positive = tt;
   refused = tt;
 }
 
@@ -90,6 +116,9 @@ storedIn (a ∷ rest) = lengthOf (a .stored)
 after-calls : List Call → List Call → List Answer
 after-calls calls more = answers (after (fresh settings 1) calls) more
 
+after-two : List Call → List Call → List Answer
+after-two calls more = answers (after (fresh settings 2) calls) more
+
 -- a clipped frame of the past has lowered the ceiling, and a clipped frame shows it
 past-clipped : List Call
 past-clipped = clipped 200 ∷ []
@@ -98,21 +127,26 @@ past-clipped = clipped 200 ∷ []
 past-started : List Call
 past-started = still 200 ∷ recommendation plusZero Absent ∷ []
 
+past-two : List Call
+past-two = stillTwo 200 ∷ recommendation plusZero Absent ∷ []
+
 record Shown : Type 0 where
   lowered : volumeIn (after-calls (past-clipped ++ withoutInitialise lead) (clipped 255 ∷ [])) ≡ 225
   unlowered : volumeIn (after-calls (withoutInitialise lead) (clipped 255 ∷ [])) ≡ 240
   muted : volumeIn (after-calls (past-started ++ withVolumeZero lead) (initialise ∷ [])) ≡ 0
   unmuted : volumeIn (after-calls (withVolumeZero lead) (initialise ∷ [])) ≡ 20
+  one-muted : volumeIn (after-two (past-two ++ withOneZero pair) (initialise ∷ [])) ≡ 0
+  none-muted : volumeIn (after-two (withOneZero pair) (initialise ∷ [])) ≡ 20
   kept : storedIn (after-calls (past-started ++ withCaptureOff lead) (initialise ∷ [])) ≡ 2
   unkept : storedIn (after-calls (withCaptureOff lead) (initialise ∷ [])) ≡ 1
 
 computed : Shown
-unfolding volumeIn lengthOf storedIn after-calls past-clipped past-started lead listed withinOf minus less atMost within magnitudeOf Decibel.levelOf dbfs gain walk frameRecord metricsOver partialMetrics sum mean largest dropBy adaptiveDrop estimateTree pushEach frameFits estimated after answers called aggregateOf countOf clippedIn total mostClipped clippedRatio rmsErrorOf isUsers defaults settingsFrom withAppliedInputVolume initialize lowerChannels analyzeInputAudio recommendInputVolume ofInt ofBits add mul div lt le
-computed = record { lowered = refl; unlowered = refl; muted = refl; unmuted = refl; kept = refl; unkept = refl }
+unfolding volumeIn lengthOf storedIn after-two past-two pair stillTwo after-calls past-clipped past-started lead listed withinOf minus less atMost within magnitudeOf Decibel.levelOf dbfs gain walk frameRecord metricsOver partialMetrics sum mean largest dropBy adaptiveDrop estimateTree pushEach frameFits estimated after answers called aggregateOf countOf clippedIn total mostClipped clippedRatio rmsErrorOf isUsers defaults settingsFrom withAppliedInputVolumes lowestOf eachGiven numbersOf initialize lowerChannels analyzeInputAudio recommendInputVolume ofInt ofBits add mul div lt le
+computed = record { lowered = refl; unlowered = refl; muted = refl; unmuted = refl; one-muted = refl; none-muted = refl; kept = refl; unkept = refl }
 
 -- THE CLAIM
 pub parts-are-needed : PartsAreNeeded
-unfolding after-calls
+unfolding after-calls after-two
 parts-are-needed = record {
   settings = settings;
   made = in-order;
@@ -126,6 +160,11 @@ parts-are-needed = record {
       let e : volumeIn (after-calls (past-started ++ withVolumeZero lead) (initialise ∷ [])) ≡ volumeIn (after-calls (withVolumeZero lead) (initialise ∷ [])) =
       ap volumeIn (alike past-started [] (initialise ∷ [])) in
       omega (arith, e, computed .muted, computed .unmuted);
+  pair = pair;
+  every-volume-needed = λ alike.
+      let e : volumeIn (after-two (past-two ++ withOneZero pair) (initialise ∷ [])) ≡ volumeIn (after-two (withOneZero pair) (initialise ∷ [])) =
+      ap volumeIn (alike past-two [] (initialise ∷ [])) in
+      omega (arith, e, computed .one-muted, computed .none-muted);
   capture-needed = λ alike.
       let e : storedIn (after-calls (past-started ++ withCaptureOff lead) (initialise ∷ [])) ≡ storedIn (after-calls (withCaptureOff lead) (initialise ∷ [])) =
       ap storedIn (alike past-started [] (initialise ∷ [])) in

@@ -5,12 +5,10 @@ use mathlib.Core.Logic.{_↔_}
 use mathlib.Core.List.{List, _∷_, reverse}
 use Prim.Native.Nat.{ℕ}
 use native.Mathlib.Omega.{arith}
+use lib.Dec.{eqb}
 use lib.Ieee.{Float}
 use lib.ListN.{length, length-replicate}
 use Rattle.numbers.proofs.Truths.{and-false}
-use Rattle.numbers.specs.declared.natural.Natural.{Natural}
-use Rattle.numbers.specs.declared.natural.Natural.the-variants.{Number, Outside}
-use Rattle.numbers.specs.Natural.{withinOf}
 use Rattle.numbers.proofs.Signs.{clash}
 use Rattle.clipping_predictor.specs.declared.settings.Settings as Predictor
 use Rattle.clipping_predictor.specs.Predictor.{frameFits}
@@ -18,17 +16,17 @@ use Rattle.mono_input_volume_controller.specs.declared.config.Settings.{Setting
 use Rattle.mono_input_volume_controller.specs.declared.speech_level.SpeechLevel.{SpeechLevel}
 use Rattle.input_volume_controller.specs.declared.Applied.{Applied}
 use Rattle.input_volume_controller.specs.declared.Applied.the-variants.{Nothing, Volume}
-use Rattle.mono_input_volume_controller.specs.MonoState.{maxInputVolume}
 use Rattle.mono_input_volume_controller.specs.Mono.{created}
 use Rattle.input_volume_controller.specs.Control.{Control}
 use Rattle.input_volume_controller.specs.Plain.{isPending}
-use Rattle.input_volume_controller.specs.ControlCalls.{aggregated, withAppliedInputVolume, initialize, lowerChannels}
+use Rattle.input_volume_controller.specs.ControlCalls.{aggregated, withAppliedInputVolumes, initialize, lowerChannels}
 use Rattle.input_volume_controller.specs.Controller.{Controller, freshWith}
 use Rattle.input_volume_controller.specs.Reply.{none}
+use Rattle.input_volume_controller.specs.Volumes.{Volumes, outsideSet, numberSet, areNumbers, numbersOf}
 use Rattle.input_volume_controller.specs.Frame.{unlessRefused, analyzeInputAudio}
 use Rattle.input_volume_controller.specs.Recommendation.{recommendIf, unlessNone, recommendInputVolume}
 use Rattle.input_volume_controller.specs.Calls.{Call, frame, recommendation, initialise, captureSwitch, step, after}
-use Rattle.claims.specs.Past.{captureOn, isNumber, isAccepted}
+use Rattle.claims.specs.Past.{captureOn, isAccepted}
 use Rattle.claims.specs.None.{frameSince, NoneExactly}
 use Rattle.claims.proofs.Walk.{Hears, if-used}
 use Rattle.claims.proofs.Capture.{Open, open-next}
@@ -43,16 +41,17 @@ waits-on : Hears (Pending true)
 unfolding lowerChannels aggregated
 waits-on = record { lowers = λ by c h. h; counts = λ c h. h }
 
-applied-waits : (v : ℕ) (c : Control) → Pending true (withAppliedInputVolume v c)
-unfolding withAppliedInputVolume aggregated
+applied-waits : (v : List ℕ) (c : Control) → Pending true (withAppliedInputVolumes v c)
+unfolding withAppliedInputVolumes aggregated
 applied-waits v c = refl
 
-frame-waits : (v : Natural) (fits waiting : Bool) (samples : ℕ) (lent : List Float) (c : Controller) → Pending waiting (c .control)
-    → Pending ((isNumber v && fits) || waiting) (unlessRefused v fits samples lent c .state .control)
-frame-waits Outside fits waiting samples lent c h = h
-frame-waits (Number n) false waiting samples lent c h = h
-frame-waits (Number n) true waiting samples lent c h =
-    if-used (Pending true) waits-on (c .control .used) samples lent (record { control = withAppliedInputVolume n (c .control); predictor = c .predictor }) (applied-waits n (c .control))
+frame-waits : (counted : Bool) (v : Volumes) (fits waiting : Bool) (samples : ℕ) (lent : List Float) (c : Controller) → Pending waiting (c .control)
+    → Pending ((counted && (areNumbers v && fits)) || waiting) (unlessRefused counted v fits samples lent c .state .control)
+frame-waits false v fits waiting samples lent c h = h
+frame-waits true outsideSet fits waiting samples lent c h = h
+frame-waits true (numberSet n) false waiting samples lent c h = h
+frame-waits true (numberSet n) true waiting samples lent c h =
+    if-used (Pending true) waits-on (c .control .used) samples lent (record { control = withAppliedInputVolumes n (c .control); predictor = c .predictor }) (applied-waits n (c .control))
 
 -- ---- a recommendation
 
@@ -79,8 +78,8 @@ record Told (count : ℕ) (past : List Call) (c : Controller) : Type 0 where
 waits-next : (count : ℕ) (call : Call) (past : List Call) (c : Controller) → Told count past c → Pending (frameSince count (call ∷ past)) (step c call .state .control)
 unfolding frameSince isAccepted analyzeInputAudio recommendInputVolume initialize aggregated
 waits-next count (frame v samples lent) past c h =
-    subst (λ (n : ℕ). Pending ((isNumber (withinOf 0 maxInputVolume v) && frameFits n samples lent) || frameSince count past) (step c (frame v samples lent) .state .control)) (h .capture .channels)
-    (frame-waits (withinOf 0 maxInputVolume v) (frameFits (length (c .control .channels)) samples lent) (frameSince count past) samples lent c (h .pending))
+    subst (λ (n : ℕ). Pending ((eqb (length v) n && (areNumbers (numbersOf v) && frameFits n samples lent)) || frameSince count past) (step c (frame v samples lent) .state .control)) (h .capture .channels)
+    (frame-waits (eqb (length v) (length (c .control .channels))) (numbersOf v) (frameFits (length (c .control .channels)) samples lent) (frameSince count past) samples lent c (h .pending))
 waits-next count (recommendation probability level) past c h =
     subst (λ (t : Bool). Pending (not t && frameSince count past) (step c (recommendation probability level) .state .control)) (h .capture .used)
     (recommendation-waits (c .control .applied) (frameSince count past) probability level c refl (h .pending))

@@ -14,7 +14,8 @@ use Rattle.clipping_predictor.specs.Predictor.{pushEach, frameFits}
 use Rattle.input_volume_controller.specs.declared.Applied.the-variants.{Nothing}
 use Rattle.mono_input_volume_controller.specs.Config.{defaults, settingsFrom}
 use Rattle.mono_input_volume_controller.specs.Mono.{created}
-use Rattle.input_volume_controller.specs.ControlCalls.{aggregated, withAppliedInputVolume}
+use Rattle.input_volume_controller.specs.Volumes.{numbersOf}
+use Rattle.input_volume_controller.specs.ControlCalls.{aggregated, withAppliedInputVolumes}
 use Rattle.input_volume_controller.specs.Controller.{Controller}
 use Rattle.input_volume_controller.specs.Frame.{analyzeInputAudio}
 use Rattle.input_volume_controller.specs.Calls.{Call, frame, after}
@@ -41,20 +42,20 @@ waiting before = record {
 
 -- a frame of one sample, 0
 abbrev silence : List Call
-silence = frame (pos 100) 1 (fin false 0 (pos 0) ∷ []) ∷ []
+silence = frame (pos 100 ∷ []) 1 (fin false 0 (pos 0) ∷ []) ∷ []
 
 -- delay + reference is 2, and one frame is accepted
 pub one-frame : (before : Level) → length (framesOf (waiting before) silence) ≡ 1
-unfolding acceptedFrames captureOn isAccepted withinOf frameFits
+unfolding acceptedFrames captureOn isAccepted numbersOf withinOf frameFits
 one-frame before = refl
 
 two-records : (before : Level) → length (getD (after (waiting before) silence .predictor .rings) 0 []) ≡ 2
-unfolding after analyzeInputAudio withinOf frameFits withAppliedInputVolume aggregated pushEach listed settingsFrom defaults
+unfolding after analyzeInputAudio numbersOf withinOf frameFits withAppliedInputVolumes aggregated pushEach listed settingsFrom defaults
 two-records before = refl
 
 -- so the ring stores more than the frame's record
 pub one-too-few : (before : Level) → NewestOf (map (recordOf 0) (framesOf (waiting before) silence)) (getD (after (waiting before) silence .predictor .rings) 0 []) → ⊥
-unfolding acceptedFrames captureOn isAccepted withinOf frameFits
+unfolding acceptedFrames captureOn isAccepted numbersOf withinOf frameFits
 one-too-few before n =
     let all = map (recordOf 0) (framesOf (waiting before) silence) in
     omega (arith, two-records before, ap length (n .is), length-take (n .count) all)

@@ -8,7 +8,6 @@ use lib.Dec.{T, ltb}
 use lib.Ieee.{Float, le}
 use lib.ListN.{length, take}
 use borrow.Author.Tests.{ltb-true, ltb-false}
-use Rattle.numbers.specs.declared.natural.Natural.the-variants.{Number}
 use Rattle.numbers.proofs.Listed.{length-listed}
 use Rattle.clipping_predictor_level_buffer.specs.declared.level.Level.{Level}
 use Rattle.clipping_predictor_level_buffer.specs.Level.{frameRecord}
@@ -18,10 +17,11 @@ use Rattle.clipping_predictor.specs.Estimate.{capacityOf}
 use Rattle.clipping_predictor.specs.Predictor.{partOf, levelsOf, pushEach}
 use Rattle.mono_input_volume_controller.specs.declared.config.Settings.{Settings}
 use Rattle.input_volume_controller.specs.Control.{withSince}
-use Rattle.input_volume_controller.specs.ControlCalls.{aggregated, withAppliedInputVolume}
+use Rattle.input_volume_controller.specs.ControlCalls.{aggregated, withAppliedInputVolumes}
 use Rattle.input_volume_controller.specs.Controller.{Controller}
 use Rattle.input_volume_controller.specs.Reply.{Stepped}
 use Rattle.clipping_predictor.specs.AllRings.{predictedBy}
+use Rattle.input_volume_controller.specs.Volumes.{numberSet}
 use Rattle.input_volume_controller.specs.Frame.{askedOf, handleIf, unlessWaiting, ifUsed, unlessRefused}
 use Rattle.claims.specs.LeadIn.{all, isSound, isLow, quietFor}
 use Rattle.claims.proofs.Lists.{and-l, and-r}
@@ -44,15 +44,15 @@ waited false wait c f g z = ap (λ (x : ℕ). handleIf (ltb 0 x) (max (c .contro
 
 -- ---- the frame
 
-module _ (p : Predictor.Settings) (s : Settings) (n : ℕ) (window : 1 ≤ p .window) (ratio : T (le plusZero (s .«clipped_ratio»))) (volume samples : ℕ) (lent : List Float) where
+module _ (p : Predictor.Settings) (s : Settings) (n : ℕ) (window : 1 ≤ p .window) (ratio : T (le plusZero (s .«clipped_ratio»))) (volumes : List ℕ) (samples : ℕ) (lent : List Float) where
   -- what such a frame does: its levels enter, and then it counts, or is tested
   frame-on : (c : Controller) → Kept p s n c → c .control .used ≡ true → T (all isSound lent)
-      → unlessRefused (Number volume) true samples lent c ≡ unlessWaiting (ltb (c .control .since) (c .control .settings .«clipped_wait»)) false (entered volume samples lent c)
-  unfolding withAppliedInputVolume aggregated
+      → unlessRefused true (numberSet volumes) true samples lent c ≡ unlessWaiting (ltb (c .control .since) (c .control .settings .«clipped_wait»)) false (entered volumes samples lent c)
+  unfolding withAppliedInputVolumes aggregated
   frame-on c k u t =
-      ap (λ (b : Bool). ifUsed b samples lent (record { control = withAppliedInputVolume volume (c .control); predictor = c .predictor })) u
-      ∙ ap (λ (b : Bool). unlessWaiting (ltb (c .control .since) (c .control .settings .«clipped_wait»)) b (entered volume samples lent c))
-      (ratio-not-above (c .control .settings .«clipped_ratio») (length (withAppliedInputVolume volume (c .control) .channels)) samples lent
+      ap (λ (b : Bool). ifUsed b samples lent (record { control = withAppliedInputVolumes volumes (c .control); predictor = c .predictor })) u
+      ∙ ap (λ (b : Bool). unlessWaiting (ltb (c .control .since) (c .control .settings .«clipped_wait»)) b (entered volumes samples lent c))
+      (ratio-not-above (c .control .settings .«clipped_ratio») (length (withAppliedInputVolumes volumes (c .control) .channels)) samples lent
       (subst (λ (x : Settings). T (le plusZero (x .«clipped_ratio»))) (sym (k .control .settings)) ratio) t)
 
   module _ (grown : List (List Level)) (k : ℕ) (c : Controller) (b : Kept p s n c) (t : T (quietFor p n samples lent)) (h : Led p s grown k c) where
@@ -64,37 +64,37 @@ module _ (p : Predictor.Settings) (s : Settings) (n : ℕ) (window : 1 ≤ p .wi
     unfolding quietFor
     low = and-r (all isSound lent) _ t
 
-    entered-rings : entered volume samples lent c .predictor .rings ≡ pushEach (capacityOf p) (levelsOf n samples lent) (c .predictor .rings)
+    entered-rings : entered volumes samples lent c .predictor .rings ≡ pushEach (capacityOf p) (levelsOf n samples lent) (c .predictor .rings)
     entered-rings = λ i. pushEach (capacityOf (b .settings i)) (levelsOf (b .count i) samples lent) (c .predictor .rings)
 
-    rows : Match (isLow p) (capacityOf p) (suc (h .m)) (suc k) (entered volume samples lent c .predictor .rings) (grow (levelsOf n samples lent) grown)
+    rows : Match (isLow p) (capacityOf p) (suc (h .m)) (suc k) (entered volumes samples lent c .predictor .rings) (grow (levelsOf n samples lent) grown)
     rows =
         subst (λ (x : List (List Level)). Match (isLow p) (capacityOf p) (suc (h .m)) (suc k) x (grow (levelsOf n samples lent) grown)) (sym entered-rings)
         (match-push (isLow p) (capacityOf p) (h .m) k (levelsOf n samples lent) (c .predictor .rings) grown
         (length-listed (λ i. frameRecord (partOf samples lent i)) n ∙ sym (b .count)) low (h .rows))
 
-    pub led-frame : Led p s (grow (levelsOf n samples lent) grown) (suc k) (unlessRefused (Number volume) true samples lent c .state)
-    unfolding withAppliedInputVolume aggregated
+    pub led-frame : Led p s (grow (levelsOf n samples lent) grown) (suc k) (unlessRefused true (numberSet volumes) true samples lent c .state)
+    unfolding withAppliedInputVolumes aggregated
     led-frame =
         subst (λ (r : Stepped). Led p s (grow (levelsOf n samples lent) grown) (suc k) (r .state)) (sym (frame-on c b (h .on) sound))
-        (led-waiting p s (grow (levelsOf n samples lent) grown) (suc k) (ltb (c .control .since) (c .control .settings .«clipped_wait»)) (suc (h .m)) (entered volume samples lent c)
+        (led-waiting p s (grow (levelsOf n samples lent) grown) (suc k) (ltb (c .control .since) (c .control .settings .«clipped_wait»)) (suc (h .m)) (entered volumes samples lent c)
         window (b .settings) (b .control .settings) (ltb-false (c .control .since) (c .control .settings .«clipped_wait»)) (h .on) (omega (arith, h .late)) rows (omega (arith, h .waited)))
 
     -- where one record more fills a ring
-    pub full-rings : capacityOf p ≤ suc (h .m) → entered volume samples lent c .predictor .rings ≡ map (take (capacityOf p)) (grow (levelsOf n samples lent) grown)
+    pub full-rings : capacityOf p ≤ suc (h .m) → entered volumes samples lent c .predictor .rings ≡ map (take (capacityOf p)) (grow (levelsOf n samples lent) grown)
     full-rings f =
-        match-full (isLow p) (capacityOf p) (suc (h .m)) (suc k) (entered volume samples lent c .predictor .rings) (grow (levelsOf n samples lent) grown) f
+        match-full (isLow p) (capacityOf p) (suc (h .m)) (suc k) (entered volumes samples lent c .predictor .rings) (grow (levelsOf n samples lent) grown) f
         (kept-entered p s n samples lent c b .small) rows
 
     -- where the count is at most one short of the wait, and the window is all quiet
     pub quiet-frame : p .window ≤ suc k → s .«clipped_wait» ≤ suc (c .control .since)
-        → unlessRefused (Number volume) true samples lent c .state ≡ counting (s .«clipped_wait») (entered volume samples lent c)
-    unfolding withAppliedInputVolume aggregated
+        → unlessRefused true (numberSet volumes) true samples lent c .state ≡ counting (s .«clipped_wait») (entered volumes samples lent c)
+    unfolding withAppliedInputVolumes aggregated
     quiet-frame w e =
         let since = c .control .since in
         let wait = c .control .settings .«clipped_wait» in
         let same : wait ≡ s .«clipped_wait» = ap (λ (x : Settings). x .«clipped_wait») (b .control .settings) in
-        let d = entered volume samples lent c in
+        let d = entered volumes samples lent c in
         ap (λ (r : Stepped). r .state) (frame-on c b (h .on) sound)
         ∙ waited (ltb since wait) (s .«clipped_wait») d (λ t. omega (arith, ltb-true since wait t, same, e)) (λ t. omega (arith, ltb-false since wait t, same, b .control .early))
         (none-predicted p (askedOf (d .control)) (d .predictor) (capacityOf p) (suc (h .m)) (suc k) (grow (levelsOf n samples lent) grown) (b .settings) window w rows)

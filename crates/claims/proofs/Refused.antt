@@ -5,27 +5,24 @@ use mathlib.Core.List.{List}
 use mathlib.Core.Option.{none, some}
 use Prim.Native.Nat.{ℕ}
 use native.Mathlib.Omega.{arith}
-use lib.Dec.{ltb}
+use lib.Dec.{ltb, eqb}
 use lib.Ieee.{Float, lt}
 use lib.ListN.{length}
-use Rattle.numbers.specs.declared.natural.Natural.{Natural}
-use Rattle.numbers.specs.declared.natural.Natural.the-variants.{Number, Outside}
-use Rattle.numbers.specs.Natural.{withinOf}
 use Rattle.clipping_predictor.specs.Predictor.{frameFits, enteredIf}
 use Rattle.mono_input_volume_controller.specs.declared.speech_level.SpeechLevel.{SpeechLevel}
 use Rattle.input_volume_controller.specs.declared.Applied.{Applied}
 use Rattle.input_volume_controller.specs.declared.Applied.the-variants.{Nothing, Volume}
-use Rattle.mono_input_volume_controller.specs.MonoState.{maxInputVolume}
 use Rattle.input_volume_controller.specs.ClippedRatio.{clippedRatio}
 use Rattle.input_volume_controller.specs.Controller.{Controller}
 use Rattle.input_volume_controller.specs.Reply.{Reply, refusal, done}
-use Rattle.input_volume_controller.specs.ControlCalls.{withAppliedInputVolume}
+use Rattle.input_volume_controller.specs.ControlCalls.{withAppliedInputVolumes}
+use Rattle.input_volume_controller.specs.Volumes.{Volumes, outsideSet, numberSet, areNumbers, numbersOf}
 use Rattle.input_volume_controller.specs.Frame.{unlessWaiting, ifUsed, unlessRefused, analyzeInputAudio}
 use Rattle.input_volume_controller.specs.Recommendation.{recommendIf, unlessNone, recommendInputVolume}
 use Rattle.input_volume_controller.specs.Calls.{Call, frame, recommendation, initialise, captureSwitch, step}
 use Rattle.claims.specs.Causes.{firstOf, callCauses}
 use Rattle.claims.specs.Refused.{refusedBy, RefusedCalls}
-use Rattle.claims.proofs.Causes.{isOutside, eightNine, frame-causes}
+use Rattle.claims.proofs.Causes.{frameCausesBy, frame-causes}
 use Rattle.claims.proofs.Making.{making-first, making-first-by-default, making-beside}
 
 -- a reply that refuses with nothing is no refusal
@@ -44,16 +41,20 @@ used-accepts true samples lent c =
     (record { control = c .control; predictor = enteredIf true samples lent (c .predictor) })
 used-accepts false samples lent c = refl
 
-frame-first : (v : Natural) (fits : Bool) (samples : ℕ) (lent : List Float) (c : Controller) → refusedBy (unlessRefused v fits samples lent c .reply) ≡ firstOf (eightNine (isOutside v) (not fits))
-frame-first Outside fits samples lent c = refl
-frame-first (Number n) false samples lent c = refl
-frame-first (Number n) true samples lent c = used-accepts (c .control .used) samples lent (record { control = withAppliedInputVolume n (c .control); predictor = c .predictor })
+frame-first : (counted : Bool) (v : Volumes) (fits : Bool) (samples : ℕ) (lent : List Float) (c : Controller)
+    → refusedBy (unlessRefused counted v fits samples lent c .reply) ≡ firstOf (frameCausesBy (not counted) (not (areNumbers v)) (not fits))
+frame-first false v fits samples lent c = refl
+frame-first true outsideSet fits samples lent c = refl
+frame-first true (numberSet ns) false samples lent c = refl
+frame-first true (numberSet ns) true samples lent c = used-accepts (c .control .used) samples lent (record { control = withAppliedInputVolumes ns (c .control); predictor = c .predictor })
 
-frame-same : (v : Natural) (fits : Bool) (samples : ℕ) (lent : List Float) (c : Controller) (number : ℕ) → unlessRefused v fits samples lent c .reply ≡ refusal number → unlessRefused v fits samples lent c .state ≡ c
-frame-same Outside fits samples lent c number e = refl
-frame-same (Number n) false samples lent c number e = refl
-frame-same (Number n) true samples lent c number e =
-    absurd (never _ number (used-accepts (c .control .used) samples lent (record { control = withAppliedInputVolume n (c .control); predictor = c .predictor })) e)
+frame-same : (counted : Bool) (v : Volumes) (fits : Bool) (samples : ℕ) (lent : List Float) (c : Controller) (number : ℕ) → unlessRefused counted v fits samples lent c .reply ≡ refusal number
+    → unlessRefused counted v fits samples lent c .state ≡ c
+frame-same false v fits samples lent c number e = refl
+frame-same true outsideSet fits samples lent c number e = refl
+frame-same true (numberSet ns) false samples lent c number e = refl
+frame-same true (numberSet ns) true samples lent c number e =
+    absurd (never _ number (used-accepts (c .control .used) samples lent (record { control = withAppliedInputVolumes ns (c .control); predictor = c .predictor })) e)
 
 -- ---- recommendations are never refused
 
@@ -70,7 +71,7 @@ answers-or-none (Volume applied) probability level c = recommends (c .control .u
 first-holds : (c : Controller) (call : Call) → refusedBy (step c call .reply) ≡ firstOf (callCauses (length (c .control .channels)) call)
 unfolding analyzeInputAudio recommendInputVolume
 first-holds c (frame v samples lent) =
-    frame-first (withinOf 0 maxInputVolume v) (frameFits (length (c .control .channels)) samples lent) samples lent c
+    frame-first (eqb (length v) (length (c .control .channels))) (numbersOf v) (frameFits (length (c .control .channels)) samples lent) samples lent c
     ∙ ap firstOf (sym (frame-causes (length (c .control .channels)) v samples lent))
 first-holds c (recommendation probability level) = answers-or-none (c .control .applied) probability level c
 first-holds c initialise = refl
@@ -78,7 +79,7 @@ first-holds c (captureSwitch on) = refl
 
 same-state : (c : Controller) (call : Call) (number : ℕ) → step c call .reply ≡ refusal number → step c call .state ≡ c
 unfolding analyzeInputAudio recommendInputVolume
-same-state c (frame v samples lent) number e = frame-same (withinOf 0 maxInputVolume v) (frameFits (length (c .control .channels)) samples lent) samples lent c number e
+same-state c (frame v samples lent) number e = frame-same (eqb (length v) (length (c .control .channels))) (numbersOf v) (frameFits (length (c .control .channels)) samples lent) samples lent c number e
 same-state c (recommendation probability level) number e = absurd (never _ number (answers-or-none (c .control .applied) probability level c) e)
 same-state c initialise number e = absurd (never done number refl e)
 same-state c (captureSwitch on) number e = absurd (never done number refl e)

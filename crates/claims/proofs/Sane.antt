@@ -3,14 +3,11 @@
 use mathlib.Core.Path.{_≡_, refl, _∙_}
 use mathlib.Core.Bool.{Bool, true, false, _||_}
 use mathlib.Core.List.{List, [], _∷_}
-use Prim.Native.Nat.{ℕ, _+_, _≤_, max, zero-le}
+use Prim.Native.Nat.{ℕ, _≤_, max, zero-le}
 use native.Mathlib.Omega.{arith}
-use lib.Dec.{ltb}
+use lib.Dec.{ltb, eqb}
 use lib.Ieee.{Float, lt}
 use lib.ListN.{length, length-take, length-map}
-use Rattle.numbers.specs.declared.natural.Natural.{Natural}
-use Rattle.numbers.specs.declared.natural.Natural.the-variants.{Number, Outside}
-use Rattle.numbers.specs.Natural.{withinOf}
 use Rattle.clipping_predictor_level_buffer.specs.declared.level.Level.{Level}
 use Rattle.clipping_predictor_level_buffer.specs.Level.{maxSamplesPerChannel, frameRecord}
 use Rattle.clipping_predictor_level_buffer.specs.Ring.{Counted}
@@ -26,43 +23,29 @@ use Rattle.clipping_predictor.proofs.MostClipped.{part-few}
 use Rattle.mono_input_volume_controller.specs.declared.mono.MonoInputVolumeController.{MonoInputVolumeController}
 use Rattle.mono_input_volume_controller.specs.declared.speech_level.SpeechLevel.{SpeechLevel}
 use Rattle.mono_input_volume_controller.specs.SpeechLevel.{rmsErrorOf}
-use Rattle.mono_input_volume_controller.specs.MonoState.{maxInputVolume}
 use Rattle.mono_input_volume_controller.specs.MonoState as Mono
 use Rattle.mono_input_volume_controller.specs.Config as Config
-use Rattle.input_volume_controller.specs.declared.channels.Aggregate.{Aggregate}
 use Rattle.input_volume_controller.specs.declared.channels.ChannelCall.{ChannelCall}
-use Rattle.input_volume_controller.specs.declared.channels.ChannelCall.the-variants.{Initialize, StreamAnalogLevel, Clipping, Process}
+use Rattle.input_volume_controller.specs.declared.channels.ChannelCall.the-variants.{Initialize, CaptureOutputUsed, Clipping, Process}
 use Rattle.input_volume_controller.specs.declared.Applied.{Applied}
 use Rattle.input_volume_controller.specs.declared.Applied.the-variants.{Nothing, Volume}
 use Rattle.input_volume_controller.specs.ClippedRatio.{clippedRatio}
-use Rattle.input_volume_controller.specs.Channels.{called, eachCalled, lowerIf, lowerOf, aggregateFrom, aggregateOf}
+use Rattle.input_volume_controller.specs.Volumes.{Volumes, outsideSet, numberSet, numbersOf, lowestOf}
+use Rattle.input_volume_controller.specs.Channels.{called, eachCalled, aggregateOf}
 use Rattle.input_volume_controller.specs.Control.{Control}
-use Rattle.input_volume_controller.specs.ControlCalls.{raisedFor, aggregated, withAppliedInputVolume, initialize, lowerChannels, processChannels}
+use Rattle.input_volume_controller.specs.ControlCalls.{raisedFor, aggregated, withAppliedInputVolumes, initialize, lowerChannels, processChannels}
 use Rattle.input_volume_controller.specs.Controller.{Controller}
-use Rattle.input_volume_controller.specs.Frame.{askedOf, handleIf, unlessWaiting, ifUsed, withVolumeApplied, unlessRefused, analyzeInputAudio}
+use Rattle.input_volume_controller.specs.Frame.{askedOf, handleIf, unlessWaiting, ifUsed, withVolumesApplied, unlessRefused, analyzeInputAudio}
 use Rattle.input_volume_controller.specs.Recommendation.{recommendIf, unlessNone, recommendInputVolume}
 use Rattle.input_volume_controller.specs.Calls.{Call, frame, recommendation, initialise, captureSwitch, step}
 use Rattle.input_volume_controller.proofs.Whole.{entered-count, emptied-count}
 use Rattle.claims.specs.Every.{Every}
 use Rattle.claims.proofs.Every.{every-map, every-listed}
-use Rattle.claims.proofs.Walk.{Keeps, step-keeps}
-use Rattle.claims.proofs.Sound.{good-stays, raised-most}
+use Rattle.input_volume_controller.proofs.ChannelLists.{length-given}
+use Rattle.claims.proofs.Walk.{Any, Keeps, any-by, step-keeps}
+use Rattle.claims.proofs.Sound.{good-initialized, good-switch, good-lowered, good-process, all-called, all-given, lowest-most, raised-most}
 
 -- ---- the controller without its predictor
-
-lower-most : (t : Bool) (v channel : ℕ) (a : Aggregate) → v ≤ 255 → a .volume ≤ 255 → lowerIf t v channel a .volume ≤ 255
-lower-most true v channel a h k = h
-lower-most false v channel a h k = k
-
-from-most : (a : Aggregate) (channel : ℕ) (ms : List MonoInputVolumeController) → a .volume ≤ 255 → Every Mono.Good ms → aggregateFrom a channel ms .volume ≤ 255
-unfolding aggregateFrom lowerOf
-from-most a channel [] h g = h
-from-most a channel (m ∷ ms) h g = from-most _ (channel + 1) ms (lower-most (ltb (m .volume) (a .volume)) (m .volume) channel a (g .0 .volume-le) h) (g .1)
-
-lowest-most : (ms : List MonoInputVolumeController) → Every Mono.Good ms → aggregateOf ms .volume ≤ 255
-unfolding aggregateOf
-lowest-most [] g = omega arith
-lowest-most (m ∷ ms) g = from-most _ 1 ms (g .0 .volume-le) (g .1)
 
 pub record SaneControl (n : ℕ) (c : Control) : Type 0 where
   pub settings : Config.Good (c .settings)
@@ -71,7 +54,25 @@ pub record SaneControl (n : ℕ) (c : Control) : Type 0 where
   pub volume : c .volume ≤ 255
 
 module _ (n : ℕ) where
-  -- every channel gets a call, and the volume is taken, with what is then pending
+  -- the channels after a call, and the volume that is taken of them, with what is then pending
+  taken-sane : (channels : List MonoInputVolumeController) (since : ℕ) (used : Bool) (a b : Applied) (c : Control) → length channels ≡ length (c .channels) → Every Mono.Good channels → SaneControl n c
+      → SaneControl n (record {
+        settings = c .settings;
+        channels = channels;
+        since = since;
+        used = used;
+        applied = b;
+        volume = raisedFor a (c .settings .least) (aggregateOf channels .volume);
+        controlling = aggregateOf channels .channel;
+      })
+  taken-sane channels since used a b c e g h = record {
+    settings = h .settings;
+    count = e ∙ h .count;
+    each = g;
+    volume = raised-most a (c .settings .least) _ (h .settings .least-le) (lowest-most channels g);
+  }
+
+  -- every channel gets a call
   called-sane : (call : ChannelCall) (since : ℕ) (used : Bool) (a b : Applied) (c : Control) → ((m : MonoInputVolumeController) → Mono.Good m → Mono.Good (called call m)) → SaneControl n c
       → SaneControl n (record {
         settings = c .settings;
@@ -82,34 +83,28 @@ module _ (n : ℕ) where
         volume = raisedFor a (c .settings .least) (aggregateOf (eachCalled call (c .channels)) .volume);
         controlling = aggregateOf (eachCalled call (c .channels)) .channel;
       })
-  called-sane call since used a b c g h =
-      let each = every-map Mono.Good Mono.Good (called call) (c .channels) g (h .each) in
-      record {
-        settings = h .settings;
-        count = length-map (c .channels) (called call) ∙ h .count;
-        each = each;
-        volume = raised-most a (c .settings .least) _ (h .settings .least-le) (lowest-most _ each);
-      }
+  called-sane call since used a b c g h = taken-sane _ since used a b c (length-map (c .channels) (called call)) (all-called call g (c .channels) (h .each)) h
 
-  pub control-kept : Keeps (SaneControl n)
-  unfolding aggregated withAppliedInputVolume lowerChannels processChannels initialize
+  pub control-kept : Keeps Any (SaneControl n)
+  unfolding aggregated withAppliedInputVolumes lowerChannels processChannels initialize
   control-kept = record {
     runs = record {
       hears = record {
-        lowers = λ by c h. called-sane (Clipping by) 0 (c .used) (c .applied) (c .applied) c (good-stays .lower by) h;
+        lowers = λ by c h. called-sane (Clipping by) 0 (c .used) (c .applied) (c .applied) c (good-lowered by) h;
         counts = λ c h. record { settings = h .settings; count = h .count; each = h .each; volume = h .volume };
       };
-      applies = λ v c l h. called-sane (StreamAnalogLevel v) (c .since) (c .used) (Volume v) (Volume v) c (λ m. good-stays .applied v m l) h;
+      applies = λ volumes c e m t h.
+          taken-sane _ (c .since) (c .used) (Volume (lowestOf volumes)) (Volume (lowestOf volumes)) c (length-given volumes (c .channels)) (all-given volumes (c .channels) m (h .each)) h;
       processes = λ p l c h.
           called-sane (Process (rmsErrorOf l (c .settings .«min_target») (c .settings .«max_target»)) p) (c .since) (c .used) (c .applied) Nothing c
-          (good-stays .process (rmsErrorOf l (c .settings .«min_target») (c .settings .«max_target»)) p) h;
-      repeats = λ c h. record { settings = h .settings; count = h .count; each = h .each; volume = raised-most (c .applied) (c .settings .least) _ (h .settings .least-le) (lowest-most _ (h .each)) };
+          (good-process (rmsErrorOf l (c .settings .«min_target») (c .settings .«max_target»)) p) h;
+      repeats = λ c h. taken-sane (c .channels) (c .since) (c .used) (c .applied) (c .applied) c refl (h .each) h;
     };
-    initialises = λ c h. called-sane Initialize (c .since) true (c .applied) Nothing c (good-stays .initial) h;
+    initialises = λ c h. called-sane Initialize (c .since) true (c .applied) Nothing c good-initialized h;
     switches = λ on c h. record {
       settings = h .settings;
       count = length-map (c .channels) _ ∙ h .count;
-      each = every-map Mono.Good Mono.Good _ (c .channels) (good-stays .switched on) (h .each);
+      each = all-called (CaptureOutputUsed on) (good-switch on) (c .channels) (h .each);
       volume = h .volume;
     };
   }
@@ -174,11 +169,12 @@ module _ (n : ℕ) where
       (record { control = c .control; predictor = enteredIf true samples lent (c .predictor) }) (entered-sane samples lent (c .predictor) most h)
   used-sane false samples lent c most h = h
 
-  frame-sane : (v : Natural) (fit : Bool) (samples : ℕ) (lent : List Float) (c : Controller) → frameFits (length (c .control .channels)) samples lent ≡ fit → SanePredictor n (c .predictor)
-      → SanePredictor n (unlessRefused v fit samples lent c .state .predictor)
-  frame-sane Outside fit samples lent c e h = h
-  frame-sane (Number volume) false samples lent c e h = h
-  frame-sane (Number volume) true samples lent c e h = used-sane (c .control .used) samples lent (withVolumeApplied volume c) (fits (length (c .control .channels)) samples lent e .most) h
+  frame-sane : (counted : Bool) (v : Volumes) (fit : Bool) (samples : ℕ) (lent : List Float) (c : Controller) → frameFits (length (c .control .channels)) samples lent ≡ fit → SanePredictor n (c .predictor)
+      → SanePredictor n (unlessRefused counted v fit samples lent c .state .predictor)
+  frame-sane false v fit samples lent c e h = h
+  frame-sane true outsideSet fit samples lent c e h = h
+  frame-sane true (numberSet volumes) false samples lent c e h = h
+  frame-sane true (numberSet volumes) true samples lent c e h = used-sane (c .control .used) samples lent (withVolumesApplied volumes c) (fits (length (c .control .channels)) samples lent e .most) h
 
   recommended-sane : (t : Bool) (applied : ℕ) (probability : Float) (level : SpeechLevel) (c : Controller) → SanePredictor n (c .predictor) → SanePredictor n (recommendIf t applied probability level c .state .predictor)
   recommended-sane true applied probability level c h = h
@@ -190,7 +186,8 @@ module _ (n : ℕ) where
 
   predictor-sane : (call : Call) (c : Controller) → SanePredictor n (c .predictor) → SanePredictor n (step c call .state .predictor)
   unfolding analyzeInputAudio recommendInputVolume
-  predictor-sane (frame volume samples lent) c h = frame-sane (withinOf 0 maxInputVolume volume) (frameFits (length (c .control .channels)) samples lent) samples lent c refl h
+  predictor-sane (frame volumes samples lent) c h =
+      frame-sane (eqb (length volumes) (length (c .control .channels))) (numbersOf volumes) (frameFits (length (c .control .channels)) samples lent) samples lent c refl h
   predictor-sane (recommendation probability level) c h = asked-sane (c .control .applied) probability level c h
   predictor-sane initialise c h = h
   predictor-sane (captureSwitch on) c h = h
@@ -207,6 +204,6 @@ pub step-sane : (n : ℕ) (call : Call) (c : Controller) → Sane n c → Sane n
 step-sane n call c h = record {
   low = h .low;
   high = h .high;
-  control = step-keeps (SaneControl n) (control-kept n) call c (h .control);
+  control = step-keeps Any (SaneControl n) (control-kept n) call c (any-by call c) (h .control);
   predictor = predictor-sane n call c (h .predictor);
 }

@@ -9,16 +9,17 @@ use Rattle.mono_input_volume_controller.specs.declared.mono.MonoInputVolumeCont
 use Rattle.mono_input_volume_controller.specs.Mono.{created, handledCaptureOutputUsedChange}
 use Rattle.mono_input_volume_controller.specs.SpeechLevel.{rmsErrorOf}
 use Rattle.input_volume_controller.specs.declared.channels.ChannelCall.{ChannelCall}
-use Rattle.input_volume_controller.specs.declared.channels.ChannelCall.the-variants.{Initialize, CaptureOutputUsed, StreamAnalogLevel, Clipping, Process}
+use Rattle.input_volume_controller.specs.declared.channels.ChannelCall.the-variants.{Initialize, CaptureOutputUsed, Clipping, Process}
 use Rattle.input_volume_controller.specs.Channels.{called, eachCalled}
 use Rattle.input_volume_controller.specs.Control.{Control}
-use Rattle.input_volume_controller.specs.ControlCalls.{aggregated, withAppliedInputVolume, initialize, lowerChannels, processChannels}
+use Rattle.input_volume_controller.specs.ControlCalls.{aggregated, withAppliedInputVolumes, initialize, lowerChannels, processChannels}
 use Rattle.input_volume_controller.specs.Controller.{freshWith}
 use Rattle.input_volume_controller.specs.Calls.{Call, after}
 use Rattle.claims.specs.Every.{Every}
-use Rattle.claims.proofs.Every.{every-map, every-replicate}
+use Rattle.claims.proofs.Every.{every-any, every-map, every-replicate}
 use Rattle.claims.proofs.Cores.{lasting-clipped, lasting-processed}
-use Rattle.claims.proofs.Walk.{Keeps, after-keeps}
+use Rattle.claims.proofs.Sets.{every-given}
+use Rattle.claims.proofs.Walk.{Any, Keeps, after-keeps}
 
 abbrev pub IsUsed : Bool → MonoInputVolumeController → Type 0
 IsUsed on m = m .used ≡ on
@@ -35,15 +36,15 @@ all-called call on new ms h e = every-map (IsUsed on) (IsUsed new) (called call)
 used : {m k : MonoInputVolumeController} → m ≡ k → m .used ≡ k .used
 used e = ap (λ (m : MonoInputVolumeController). m .used) e
 
-follows-kept : Keeps Follows
-unfolding aggregated withAppliedInputVolume lowerChannels processChannels initialize called handledCaptureOutputUsedChange
+follows-kept : Keeps Any Follows
+unfolding aggregated withAppliedInputVolumes lowerChannels processChannels initialize called handledCaptureOutputUsedChange
 follows-kept = record {
   runs = record {
     hears = record {
       lowers = λ by c h. all-called (Clipping by) (c .used) (c .used) (c .channels) (λ m e. used (lasting-clipped by m) ∙ e) h;
       counts = λ c h. h;
     };
-    applies = λ v c l h. all-called (StreamAnalogLevel v) (c .used) (c .used) (c .channels) (λ m e. e) h;
+    applies = λ volumes c e m t h. every-given (λ v. Unit {0}) (IsUsed (c .used)) (λ v m k u. u) volumes (c .channels) (every-any (λ (v : ℕ). Unit {0}) (λ v. tt) volumes) h;
     processes = λ p l c h.
         let error = rmsErrorOf l (c .settings .«min_target») (c .settings .«max_target») in
         all-called (Process error p) (c .used) (c .used) (c .channels) (λ m e. used (lasting-processed error p m) ∙ e) h;

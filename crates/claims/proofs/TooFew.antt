@@ -40,8 +40,9 @@ use Rattle.clipping_predictor_level_buffer.specs.Clipped.{countOf, clippedIn, t
 use Rattle.clipping_predictor.specs.MostClipped.{mostClipped}
 use Rattle.input_volume_controller.specs.ClippedRatio.{clippedRatio}
 use Rattle.mono_input_volume_controller.specs.Config.{defaults, settingsFrom, settingsOf}
-use Rattle.input_volume_controller.specs.Channels.{called, aggregateOf}
-use Rattle.input_volume_controller.specs.ControlCalls.{withAppliedInputVolume, initialize, lowerChannels}
+use Rattle.input_volume_controller.specs.Channels.{called, eachGiven, aggregateOf}
+use Rattle.input_volume_controller.specs.Volumes.{numbersOf, lowestOf}
+use Rattle.input_volume_controller.specs.ControlCalls.{withAppliedInputVolumes, initialize, lowerChannels}
 use Rattle.input_volume_controller.specs.Controller.{Controller, basePredictor, switched, freshWith, fresh, Making, makingWith}
 use Rattle.input_volume_controller.specs.Frame.{analyzeInputAudio}
 use Rattle.input_volume_controller.specs.Recommendation.{recommendInputVolume}
@@ -62,16 +63,16 @@ use Rattle.claims.proofs.OneSample.{still, loud, clipped}
 module _ (isStill : ℕ → List Float → Bool) (passes : T (isStill 1 (plusZero ∷ []))) where
   still-calm : (volume : ℕ) → T (isCalm 1 isStill (still volume))
   unfolding isCalm
-  still-calm volume = or-right (not (isAccepted 1 (pos volume) 1 (plusZero ∷ []))) (isStill 1 (plusZero ∷ [])) passes
+  still-calm volume = or-right (not (isAccepted 1 (pos volume ∷ []) 1 (plusZero ∷ []))) (isStill 1 (plusZero ∷ [])) passes
 
   lead : (body : List Call) (least : ℕ) → T (all (isCalm 1 isStill) body) → least ≤ acceptedIn 1 body → LeadIn 1 isStill least
-  unfolding withinOf frameFits all isAccepted
+  unfolding withinOf numbersOf frameFits all isAccepted
   lead body least calm long = record {
     body = body;
     afterInitialise = [];
     afterFrame = [];
     afterRecommendation = [];
-    volume = 100;
+    volumes = 100 ∷ [];
     samples = 1;
     lent = plusZero ∷ [];
     probability = plusZero;
@@ -80,7 +81,7 @@ module _ (isStill : ℕ → List Float → Bool) (passes : T (isStill 1 (plusZer
     long = long;
     accepted = tt;
     still = passes;
-    positive = lit≤ tt;
+    positive = tt;
     refused = tt;
   }
 
@@ -151,11 +152,11 @@ unfolding all isQuiet quiet ofInt le lt eq
 silence-quiet = tt
 
 twelve : LeadIn 1 quiet (enough (settings 0) - 2)
-unfolding settingsFrom withinOf frameFits all isAccepted acceptedBy acceptedIn isQuiet quiet isCalm ofInt le eq
+unfolding settingsFrom withinOf numbersOf frameFits all isAccepted acceptedBy acceptedIn isQuiet quiet isCalm ofInt le eq
 twelve = lead quiet silence-quiet (body 8) 12 tt (lit≤ tt)
 
 three-hundred-two : LeadIn 1 quiet (enough (settings 300) - 2)
-unfolding settingsFrom withinOf frameFits all isAccepted acceptedBy acceptedIn isQuiet quiet isCalm ofInt le eq
+unfolding settingsFrom withinOf numbersOf frameFits all isAccepted acceptedBy acceptedIn isQuiet quiet isCalm ofInt le eq
 three-hundred-two = lead quiet silence-quiet (body 298) 302 tt (lit≤ tt)
 
 -- ---- a small predictor of any mode
@@ -198,11 +199,11 @@ module _ (mode : ClippingPredictorMode) where
       long
 
   three : LeadIn 1 isStill (enoughFor (smallSettings mode) (settings 0) - 2)
-  unfolding settingsFrom withinOf frameFits isAccepted acceptedBy acceptedIn
+  unfolding settingsFrom withinOf numbersOf frameFits isAccepted acceptedBy acceptedIn
   three = smallLead 2 3 (lit≤ tt)
 
   nine : LeadIn 1 isStill (enoughFor (smallSettings mode) (settings 10) - 2)
-  unfolding settingsFrom withinOf frameFits isAccepted acceptedBy acceptedIn
+  unfolding settingsFrom withinOf numbersOf frameFits isAccepted acceptedBy acceptedIn
   nine = smallLead 8 9 (lit≤ tt)
 
 -- ---- computed
@@ -220,7 +221,7 @@ record Computed : Type 0 where
   fixed : Shown FixedStepClippingPeakPrediction
 
 computed : Computed
-unfolding shownBy shown lengthOf twelve three-hundred-two three nine smallLead lead listed withinOf minus less atMost within magnitudeOf Decibel.levelOf dbfs gain gainMap walk first searched frameRecord metricsOver partialMetrics sum mean largest dropBy adaptiveDrop estimateTree pushEach frameFits estimated after answers called aggregateOf countOf clippedIn total mostClipped clippedRatio defaults settingsFrom withAppliedInputVolume initialize lowerChannels analyzeInputAudio recommendInputVolume ofInt ofBits add mul div lt le callsOf
+unfolding shownBy shown lengthOf twelve three-hundred-two three nine smallLead lead listed withinOf minus less atMost within magnitudeOf Decibel.levelOf dbfs gain gainMap walk first searched frameRecord metricsOver partialMetrics sum mean largest dropBy adaptiveDrop estimateTree pushEach frameFits estimated after answers called aggregateOf countOf clippedIn total mostClipped clippedRatio defaults settingsFrom withAppliedInputVolumes lowestOf eachGiven numbersOf initialize lowerChannels analyzeInputAudio recommendInputVolume ofInt ofBits add mul div lt le callsOf
 computed = record {
   filling = record { with-past = refl; without = refl };
   waiting = record { with-past = refl; without = refl };

@@ -1,43 +1,43 @@
 -- What the parts of every call keep of the controller, any calls keep. Assumes nothing.
-use mathlib.Core.Path.{_≡_, refl}
-use mathlib.Core.Bool.{Bool, true, false, _||_}
+use mathlib.Core.Path.{_≡_, refl, sym, _∙_, subst}
+use mathlib.Core.Bool.{Bool, true, false, _&&_, _||_}
 use mathlib.Core.List.{List, [], _∷_}
-use Prim.Native.Nat.{ℕ, _≤_, max}
-use lib.Dec.{ltb}
+use Prim.Native.Nat.{ℕ, max}
+use lib.Dec.{T, ltb, eqb}
 use lib.IntN.{ℤ}
 use lib.Ieee.{Float, lt}
 use lib.ListN.{length}
-use Rattle.numbers.specs.declared.natural.Natural.{Natural}
-use Rattle.numbers.specs.declared.natural.Natural.the-variants.{Number, Outside}
-use Rattle.numbers.specs.Natural.{withinOf}
-use Rattle.numbers.proofs.Ranges.{told}
+use borrow.Author.Tests.{eqb-true}
 use Rattle.clipping_predictor.specs.Predictor.{frameFits, enteredIf}
 use Rattle.mono_input_volume_controller.specs.declared.speech_level.SpeechLevel.{SpeechLevel}
 use Rattle.input_volume_controller.specs.declared.Applied.{Applied}
 use Rattle.input_volume_controller.specs.declared.Applied.the-variants.{Nothing, Volume}
-use Rattle.mono_input_volume_controller.specs.MonoState.{maxInputVolume}
 use Rattle.input_volume_controller.specs.ClippedRatio.{clippedRatio}
 use Rattle.input_volume_controller.specs.Control.{Control, withApplied}
-use Rattle.input_volume_controller.specs.ControlCalls.{aggregated, withAppliedInputVolume, initialize, switchCapture, lowerChannels, oneFrameMore, processChannels}
+use Rattle.input_volume_controller.specs.ControlCalls.{aggregated, withAppliedInputVolumes, initialize, switchCapture, lowerChannels, oneFrameMore, processChannels}
 use Rattle.input_volume_controller.specs.Controller.{Controller}
 use Rattle.clipping_predictor.specs.AllRings.{predictedBy}
+use Rattle.input_volume_controller.specs.Volumes.{Volumes, outsideSet, numberSet, areNumbers, numbersOf}
 use Rattle.input_volume_controller.specs.Frame.{askedOf, handleIf, unlessWaiting, ifUsed, unlessRefused, analyzeInputAudio}
 use Rattle.input_volume_controller.specs.Recommendation.{recommendIf, unlessNone, recommendInputVolume}
 use Rattle.input_volume_controller.specs.Calls.{Call, frame, recommendation, initialise, captureSwitch, step, after}
+use Rattle.input_volume_controller.proofs.SetNumbers.{AllMost, told-set, length-told}
+use Rattle.claims.specs.Past.{isAccepted}
 
 -- the parts of the calls, each with what it does to the controller without its predictor: what may follow in a frame once its volume is set; the parts of frames and recommendations; all parts
 pub record Hears (P : Control → Type 0) : Type 0 where
   pub lowers : (by : ℕ) (c : Control) → P c → P (lowerChannels by c)
   pub counts : (c : Control) → P c → P (oneFrameMore c)
 
-pub record Runs (P : Control → Type 0) : Type 0 where
+-- of the sets that are accepted it may be known that `Takes` holds
+pub record Runs (Takes : List ℕ → Type 0) (P : Control → Type 0) : Type 0 where
   pub hears : Hears P
-  pub applies : (volume : ℕ) (c : Control) → volume ≤ maxInputVolume → P c → P (withAppliedInputVolume volume c)
+  pub applies : (volumes : List ℕ) (c : Control) → length volumes ≡ length (c .channels) → AllMost volumes → Takes volumes → P c → P (withAppliedInputVolumes volumes c)
   pub processes : (probability : Float) (level : SpeechLevel) (c : Control) → P c → P (withApplied Nothing (processChannels probability level c))
   pub repeats : (c : Control) → P c → P (aggregated c)
 
-pub record Keeps (P : Control → Type 0) : Type 0 where
-  pub runs : Runs P
+pub record Keeps (Takes : List ℕ → Type 0) (P : Control → Type 0) : Type 0 where
+  pub runs : Runs Takes P
   pub initialises : (c : Control) → P c → P (initialize c)
   pub switches : (on : Bool) (c : Control) → P c → P (switchCapture on c)
 
@@ -58,13 +58,32 @@ module _ (P : Control → Type 0) (k : Hears P) where
       (record { control = c .control; predictor = enteredIf true samples lent (c .predictor) }) h
   if-used false samples lent c h = h
 
-module _ (P : Control → Type 0) (k : Runs P) where
-  unless-refused : (v : Natural) (fits : Bool) (volume : ℤ) (samples : ℕ) (lent : List Float) (c : Controller) → withinOf 0 maxInputVolume volume ≡ v → P (c .control) → P (unlessRefused v fits samples lent c .state .control)
-  unless-refused Outside fits volume samples lent c e h = h
-  unless-refused (Number n) false volume samples lent c e h = h
-  unless-refused (Number n) true volume samples lent c e h =
-      if-used P (k .hears) (c .control .used) samples lent (record { control = withAppliedInputVolume n (c .control); predictor = c .predictor })
-      (k .applies n (c .control) (told 0 maxInputVolume volume n e .most) h)
+-- what is known of the set of a frame, if it is accepted
+abbrev pub Given : (List ℕ → Type 0) → List ℤ → ℕ → List Float → Controller → Type 0
+Given Takes volumes samples lent c = (numbers : List ℕ) → numbersOf volumes ≡ numberSet numbers → T (isAccepted (length (c .control .channels)) volumes samples lent) → Takes numbers
+
+-- any set
+abbrev pub Any : List ℕ → Type 0
+Any numbers = Unit {0}
+
+pub any-given : (volumes : List ℤ) (samples : ℕ) (lent : List Float) (c : Controller) → Given Any volumes samples lent c
+any-given volumes samples lent c = λ numbers e t. tt
+
+-- none of the causes of a refusal holds
+pub accepted : (channels : ℕ) (volumes : List ℤ) (numbers : List ℕ) (samples : ℕ) (lent : List Float) → eqb (length volumes) channels ≡ true → numbersOf volumes ≡ numberSet numbers
+    → frameFits channels samples lent ≡ true → T (isAccepted channels volumes samples lent)
+unfolding isAccepted
+accepted channels volumes numbers samples lent a e f = subst T (sym (λ i. a i && (areNumbers (e i) && f i))) tt
+
+module _ (Takes : List ℕ → Type 0) (P : Control → Type 0) (k : Runs Takes P) where
+  unless-refused : (counted : Bool) (v : Volumes) (fits : Bool) (volumes : List ℤ) (samples : ℕ) (lent : List Float) (c : Controller) → eqb (length volumes) (length (c .control .channels)) ≡ counted
+      → numbersOf volumes ≡ v → frameFits (length (c .control .channels)) samples lent ≡ fits → Given Takes volumes samples lent c → P (c .control) → P (unlessRefused counted v fits samples lent c .state .control)
+  unless-refused false v fits volumes samples lent c a e f g h = h
+  unless-refused true outsideSet fits volumes samples lent c a e f g h = h
+  unless-refused true (numberSet ns) false volumes samples lent c a e f g h = h
+  unless-refused true (numberSet ns) true volumes samples lent c a e f g h =
+      if-used P (k .hears) (c .control .used) samples lent (record { control = withAppliedInputVolumes ns (c .control); predictor = c .predictor })
+      (k .applies ns (c .control) (length-told volumes ns e ∙ eqb-true (length volumes) (length (c .control .channels)) a) (told-set volumes ns e .most) (g ns e (accepted (length (c .control .channels)) volumes ns samples lent a e f)) h)
 
   recommend-if : (used : Bool) (applied : ℕ) (probability : Float) (level : SpeechLevel) (c : Controller) → P (c .control) → P (recommendIf used applied probability level c .state .control)
   recommend-if true applied probability level c h = k .processes probability level (c .control) h
@@ -74,22 +93,37 @@ module _ (P : Control → Type 0) (k : Runs P) where
   unless-none Nothing probability level c h = h
   unless-none (Volume applied) probability level c h = recommend-if (c .control .used) applied probability level c h
 
-  pub frame-keeps : (volume : ℤ) (samples : ℕ) (lent : List Float) (c : Controller) → P (c .control) → P (analyzeInputAudio volume samples lent c .state .control)
+  pub frame-keeps : (volumes : List ℤ) (samples : ℕ) (lent : List Float) (c : Controller) → Given Takes volumes samples lent c → P (c .control) → P (analyzeInputAudio volumes samples lent c .state .control)
   unfolding analyzeInputAudio
-  frame-keeps volume samples lent c h = unless-refused (withinOf 0 maxInputVolume volume) (frameFits (length (c .control .channels)) samples lent) volume samples lent c refl h
+  frame-keeps volumes samples lent c g h =
+      unless-refused (eqb (length volumes) (length (c .control .channels))) (numbersOf volumes) (frameFits (length (c .control .channels)) samples lent) volumes samples lent c refl refl refl g h
 
   pub recommendation-keeps : (probability : Float) (level : SpeechLevel) (c : Controller) → P (c .control) → P (recommendInputVolume probability level c .state .control)
   unfolding recommendInputVolume
   recommendation-keeps probability level c h = unless-none (c .control .applied) probability level c h
 
-module _ (P : Control → Type 0) (k : Keeps P) where
-  pub step-keeps : (call : Call) (c : Controller) → P (c .control) → P (step c call .state .control)
-  step-keeps (frame volume samples lent) c h = frame-keeps P (k .runs) volume samples lent c h
-  step-keeps (recommendation probability level) c h = recommendation-keeps P (k .runs) probability level c h
-  step-keeps initialise c h = k .initialises (c .control) h
-  step-keeps (captureSwitch on) c h = k .switches on (c .control) h
+abbrev pub GivenBy : (List ℕ → Type 0) → Call → Controller → Type 0
+GivenBy Takes (frame volumes samples lent) c = Given Takes volumes samples lent c
+GivenBy Takes (recommendation probability level) c = Unit {0}
+GivenBy Takes initialise c = Unit {0}
+GivenBy Takes (captureSwitch on) c = Unit {0}
 
+module _ (Takes : List ℕ → Type 0) (P : Control → Type 0) (k : Keeps Takes P) where
+  pub step-keeps : (call : Call) (c : Controller) → GivenBy Takes call c → P (c .control) → P (step c call .state .control)
+  step-keeps (frame volumes samples lent) c g h = frame-keeps Takes P (k .runs) volumes samples lent c g h
+  step-keeps (recommendation probability level) c g h = recommendation-keeps Takes P (k .runs) probability level c h
+  step-keeps initialise c g h = k .initialises (c .control) h
+  step-keeps (captureSwitch on) c g h = k .switches on (c .control) h
+
+pub any-by : (call : Call) (c : Controller) → GivenBy Any call c
+any-by (frame volumes samples lent) c = any-given volumes samples lent c
+any-by (recommendation probability level) c = tt
+any-by initialise c = tt
+any-by (captureSwitch on) c = tt
+
+-- with any sets
+module _ (P : Control → Type 0) (k : Keeps Any P) where
   pub after-keeps : (calls : List Call) (c : Controller) → P (c .control) → P (after c calls .control)
   unfolding after
   after-keeps [] c h = h
-  after-keeps (call ∷ calls) c h = after-keeps calls (step c call .state) (step-keeps call c h)
+  after-keeps (call ∷ calls) c h = after-keeps calls (step c call .state) (step-keeps Any P k call c (any-by call c) h)

@@ -1,5 +1,5 @@
 -- The claims `EqualChannels` and `DependsOnOne`, of the code and of the static library: of every controller that a making handed back, whether it accepted or refused, after any run of its calls,
--- accepted and refused. Definitions only.
+-- accepted and refused, in which every set accepted had equal volumes; what follows may have any sets. Definitions only.
 use mathlib.Core.Path.{_≡_}
 use mathlib.Core.List.{List, map}
 use Prim.Native.Nat.{ℕ, _<_}
@@ -15,7 +15,7 @@ use Rattle.agc2.specs.Whole.{wholeOf}
 use Rattle.agc2.specs.Calls as Library
 use Rattle.claims.specs.Run.{Run}
 use Rattle.claims.specs.Library.{Numbers, Heard, LibraryRun}
-use Rattle.claims.specs.Equal.{AsOne}
+use Rattle.claims.specs.Equal.{AsOne, EvenCalls}
 use Rattle.claims.specs.Depends.{AgreeInAll, repliesIn}
 
 abbrev pub channelsIn : InputVolumeController → ℕ
@@ -23,7 +23,8 @@ channelsIn c = c .control .channels .count
 
 -- ---- the code
 
--- what `InputVolumeController::with_predictor` handed back, or `new`, which is that with the base's predictor, is what its contract says, and c is that controller after some calls, of which this was heard
+-- what `InputVolumeController::with_predictor` handed back, or `new`, which is that with the base's predictor, is what its contract says, and c is that controller after some calls, of which this was heard; every
+-- set accepted so far had equal volumes
 pub record HasPast (c : InputVolumeController) : Type 0 where
   pub channels : ℤ
   pub config : Config
@@ -33,6 +34,7 @@ pub record HasPast (c : InputVolumeController) : Type 0 where
   pub calls : List Call
   pub heard : List Answer
   pub run : Run (made .controller) calls heard c
+  pub even : EvenCalls (channelsIn (made .controller)) calls
 
 -- THE CLAIM, of the code
 pub record AsOneInCode : Type 0 where
@@ -52,6 +54,7 @@ pub record HasLibraryPast (c : Agc2Controller) : Type 0 where
   pub calls : List Call
   pub heard : List Heard
   pub run : LibraryRun made calls heard c
+  pub even : EvenCalls (channelsIn (wholeOf made)) calls
 
 -- of what is heard the numbers that the calls answer alone: a frame's refusal and mark, a recommendation's flag and volume
 abbrev pub numbersIn : List Heard → List Numbers

@@ -1,4 +1,4 @@
--- Document 01, "What a call can say no to", as a table: for each call on a controller, and for its making, the causes about its inputs in rising number, and the first that holds. Definitions only.
+-- Document 01, "What a call can say no to", as a table: for each call on a controller, and for its making, the causes about its inputs in their order (rising number, but 20 of a frame's set first), and the first that holds. Definitions only.
 use mathlib.Core.Bool.{Bool, true, false, not, _&&_, _||_}
 use mathlib.Core.List.{List, [], _∷_}
 use mathlib.Core.Option.{Option, none, some}
@@ -30,22 +30,29 @@ firstOf (cause ∷ causes) = firstIf (cause .holds) (cause .number) (firstOf cau
 abbrev pub outside : ℤ → ℤ → ℤ → Bool
 outside low high x = ltZ x low || ltZ high x
 
+-- any volume of a set
+abbrev pub anyOutside : List ℤ → Bool
+anyOutside [] = false
+anyOutside (volume ∷ volumes) = outside (pos 0) (pos 255) volume || anyOutside volumes
+
 -- "not 0 to 1, or not a number": a not-a-number is in no order
 abbrev pub outsideUnit : Float → Bool
 outsideUnit x = not (le (ofInt binary32 (pos 0)) x && le x (ofInt binary32 (pos 1)))
 
 -- a frame, with the count of channels
-abbrev pub frameCauses : ℕ → ℤ → ℕ → List Float → List Cause
-frameCauses channels volume samples lent =
-    -- "a volume not 0 to 255"
-    record { number = 8; holds = outside (pos 0) (pos 255) volume }
+abbrev pub frameCauses : ℕ → List ℤ → ℕ → List Float → List Cause
+frameCauses channels volumes samples lent =
+    -- "a set whose length isn't the channel count"
+    record { number = 20; holds = not (eqb (length volumes) channels) }
+    -- "a set with any volume outside 0 to 255"
+    ∷ record { number = 8; holds = anyOutside volumes }
     -- "samples per channel not 1 to 480, or lent samples not channels × that"
     ∷ record { number = 9; holds = ltb samples 1 || (ltb 480 samples || not (eqb (length lent) (channels * samples))) }
     ∷ []
 
 -- no other call on a controller can be refused
 abbrev pub callCauses : ℕ → Call → List Cause
-callCauses channels (frame volume samples lent) = frameCauses channels volume samples lent
+callCauses channels (frame volumes samples lent) = frameCauses channels volumes samples lent
 callCauses channels (recommendation probability level) = []
 callCauses channels initialise = []
 callCauses channels (captureSwitch on) = []

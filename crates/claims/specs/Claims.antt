@@ -26,6 +26,10 @@ use Rattle.claims.specs.Equal.{EqualChannels}
 use Rattle.claims.specs.Depends.{DependsOnOne, SaidByOthers}
 use Rattle.claims.specs.DependsEach.{DependsOnEach}
 use Rattle.claims.specs.AsOneInCode.{AsOneInCode, AsOneInLibrary}
+use Rattle.claims.specs.OneVolume.{OneVolume}
+use Rattle.claims.specs.EachTakesItsOwn.{EachTakesItsOwn}
+use Rattle.claims.specs.LowestIsApplied.{LowestIsApplied}
+use Rattle.claims.specs.Controlling.{ControllingIsLowest}
 use Rattle.claims.specs.None.{NoneExactly}
 
 pub record Claims : Type 0 where
@@ -61,7 +65,8 @@ pub record Claims : Type 0 where
   pub two-pasts : TwoPasts
   pub two-pasts-by-default : TwoPastsByDefault
   pub two-pasts-in-every-mode : TwoPastsInEveryMode
-  -- that claim is not empty, and asks for one frame more than it needs, since the last one counts too: lead-ins exist, one frame fewer does, in every mode, two do not, in any, and no part may be left out
+  -- that claim is not empty, and asks for one frame more than it needs, since the last one counts too: lead-ins exist, one frame fewer does, in every mode, two do not, in any, and no part may be left out,
+  -- nor may one volume of the last frame be 0
   pub lead-ins-exist : LeadInsExist
   pub accepted-is-not-refused : AcceptedIsNotRefused
   pub one-fewer-is-enough : OneFewerIsEnough
@@ -73,15 +78,21 @@ pub record Claims : Type 0 where
   pub example-lines : ExampleLines
   -- the gain table never falls
   pub gains : NeverFalls
-  -- after any calls all channels are equal, and the first controls
+  -- after any calls in which every accepted set had equal volumes all channels are equal, and the first controls
   pub equal : EqualChannels
-  -- besides the calls' own inputs the replies depend on the settings, one channel's state, the rings, the count of frames since clipping and the pending volume alone, whatever the controller's own
-  -- volume is; the channel count and the capture switch are said by these, and of these none can be spared
+  -- after such calls, and besides the calls' own inputs, the replies depend on the settings, one channel's state, the rings, the count of frames since clipping and the pending volume alone, whatever the
+  -- controller's own volume is and whatever sets follow; the channel count and the capture switch are said by these, after any calls; of these none can be spared, and neither can the equal volumes
   pub depends-on-one : DependsOnOne
   pub said-by-others : SaidByOthers
   pub depends-on-each : DependsOnEach
   -- both, of the code and of the static library, from every making on, accepted or refused
   pub as-one-in-code : AsOneInCode
   pub as-one-in-library : AsOneInLibrary
+  -- a volume for each channel: of a set each channel takes its own, by its place; the lowest is pending, and is what a recommendation with capture off repeats; the controlling channel is the first that holds the lowest
+  -- of the channels' volumes, and a recommendation with capture on is that, after the usual minimum; and with equal volumes a frame is document 01's with one
+  pub each-takes-its-own : EachTakesItsOwn
+  pub lowest-is-applied : LowestIsApplied
+  pub controlling-is-lowest : ControllingIsLowest
+  pub one-volume : OneVolume
   -- the recommendation is none exactly if no frame was accepted since the latest of making, initialise and recommendation with capture on
   pub none : NoneExactly

@@ -1,7 +1,7 @@
 -- All channels as one, second half. Document 02 (xiii): "besides the calls' own inputs, the recommendations depend on the controller's settings and channel count, one channel state, the rings, the
 -- clipping wait, the capture switch and the pending volume alone". The controller's own volume and the controlling channel are not among these: a call that uses the volume takes it anew first.
 -- Of the words' list two need not be asked for, since others say them: the channel count, by the rings, and the capture switch, by the channel's state (`SaidByOthers`). So the claim asks for the
--- other five, and none of them can be spared (`DependsOnEach`, DependsEach.antt). Definitions only.
+-- other five, and none of them can be spared (`DependsOnEach`, DependsEach.antt). Document 02 (xiv): this holds "where every set accepted so far had equal volumes". What follows may have any sets. Definitions only.
 use mathlib.Core.Path.{_≡_}
 use mathlib.Core.List.{List, map}
 use Prim.Native.Nat.{ℕ, _<_}
@@ -13,6 +13,7 @@ use Rattle.input_volume_controller.specs.Channels.{noChannel}
 use Rattle.input_volume_controller.specs.Controller.{Controller, freshWith}
 use Rattle.input_volume_controller.specs.Reply.{Reply}
 use Rattle.input_volume_controller.specs.Calls.{Call, Answer, after, answers}
+use Rattle.claims.specs.Equal.{EvenCalls}
 
 -- ---- a controller and its past
 
@@ -26,6 +27,10 @@ pub record History : Type 0 where
 -- where it stands then
 abbrev pub standing : History → Controller
 standing h = after (freshWith (h .predictor) (h .settings) (h .channels)) (h .calls)
+
+-- "where every set accepted so far had equal volumes"
+abbrev pub Even : History → Type 0
+Even h = EvenCalls (h .channels) (h .calls)
 
 -- ---- what two controllers may agree in
 
@@ -60,13 +65,13 @@ repliesIn all = map (λ (a : Answer). a .reply) all
 abbrev pub ReplyAlike : Controller → Controller → Type 0
 ReplyAlike a b = (calls : List Call) → repliesIn (answers a calls) ≡ repliesIn (answers b calls)
 
--- THE CLAIM, of two controllers each with any past of its own
+-- THE CLAIM, of two controllers each with a past of its own
 abbrev pub DependsOnOne : Type 0
-DependsOnOne = (one other : History) (channel : ℕ) → channel < one .channels → AgreeInAll channel (standing one) (standing other) → ReplyAlike (standing one) (standing other)
+DependsOnOne = (one other : History) → Even one → Even other → (channel : ℕ) → channel < one .channels → AgreeInAll channel (standing one) (standing other) → ReplyAlike (standing one) (standing other)
 
 -- ---- what need not be asked for
 
--- THE CLAIM: each channel has a ring, and each channel's state says whether its output is used, as the capture switch does
+-- THE CLAIM, with any sets: each channel has a ring, and each channel's state says whether its output is used, as the capture switch does
 pub record SaidByOthers : Type 0 where
   pub count : (h : History) → length (standing h .predictor .rings) ≡ h .channels
   pub switch : (h : History) (channel : ℕ) → channel < h .channels → stateOf channel (standing h) .used ≡ standing h .control .used

@@ -18,5 +18,5 @@ unfoldable pub exactPredicted : Asked → Predictor → Estimated
 exactPredicted a p = predictedAs (map (λ (records : List Level). exactDrop (p .settings) records a) (p .rings)) a p
 
 -- the frame's own definition, with these estimates
-unfoldable pub exactFrame : ℤ → ℕ → List Float → Controller → Stepped
+unfoldable pub exactFrame : List ℤ → ℕ → List Float → Controller → Stepped
 exactFrame = frameBy exactPredicted

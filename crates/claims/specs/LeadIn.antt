@@ -1,8 +1,8 @@
 -- Document 01, demand 3: the frames that are accepted, those that are quiet, and the lead-in. Definitions only.
 use mathlib.Core.Bool.{Bool, true, false, not, _&&_, _||_}
-use mathlib.Core.List.{List, [], _∷_, _++_}
+use mathlib.Core.List.{List, [], _∷_, _++_, map}
 use Prim.Native.Nat.{ℕ, _+_, _≤_}
-use lib.Dec.{T}
+use lib.Dec.{T, leb}
 use lib.IntN.{ℤ, pos, negsuc}
 use lib.Ieee.{Float, binary32, isNan, le, ofInt}
 use Rattle.levels.specs.declared.decibels.Decibels.the-variants.{Finite}
@@ -28,7 +28,7 @@ all f (x ∷ xs) = f x && all f xs
 
 -- how many accepted frames a call is, and how many a list of calls has
 unfoldable pub acceptedBy : ℕ → Call → ℕ
-acceptedBy channels (frame volume samples lent) = oneIf (isAccepted channels volume samples lent)
+acceptedBy channels (frame volumes samples lent) = oneIf (isAccepted channels volumes samples lent)
 acceptedBy channels (recommendation probability level) = 0
 acceptedBy channels initialise = 0
 acceptedBy channels (captureSwitch on) = 0
@@ -39,7 +39,7 @@ acceptedIn channels (call ∷ calls) = acceptedBy channels call + acceptedIn cha
 
 -- "Refused frames may stand anywhere.": a refused frame
 unfoldable pub isRefused : ℕ → Call → Bool
-isRefused channels (frame volume samples lent) = not (isAccepted channels volume samples lent)
+isRefused channels (frame volumes samples lent) = not (isAccepted channels volumes samples lent)
 isRefused channels (recommendation probability level) = false
 isRefused channels initialise = false
 isRefused channels (captureSwitch on) = false
@@ -76,7 +76,7 @@ quietFor p channels samples lent = all isSound lent && all (isLow p) (levelsOf c
 module _ (channels : ℕ) (isStill : ℕ → List Float → Bool) where
   -- "any list of these calls without a switching off, in which every accepted frame is quiet": each of its calls
   unfoldable pub isCalm : Call → Bool
-  isCalm (frame volume samples lent) = not (isAccepted channels volume samples lent) || isStill samples lent
+  isCalm (frame volumes samples lent) = not (isAccepted channels volumes samples lent) || isStill samples lent
   isCalm (recommendation probability level) = true
   isCalm initialise = true
   isCalm (captureSwitch on) = on
@@ -88,7 +88,7 @@ module _ (channels : ℕ) (isStill : ℕ → List Float → Bool) where
     -- refused frames
     pub afterInitialise : List Call
     -- the last frame
-    pub volume : ℕ
+    pub volumes : List ℕ
     pub samples : ℕ
     pub lent : List Float
     pub afterFrame : List Call
@@ -98,15 +98,16 @@ module _ (channels : ℕ) (isStill : ℕ → List Float → Bool) where
     pub afterRecommendation : List Call
     pub calm : T (all isCalm body)
     pub long : enough ≤ acceptedIn channels body
-    pub accepted : T (isAccepted channels (pos volume) samples lent)
+    pub accepted : T (isAccepted channels (map pos volumes) samples lent)
     pub still : T (isStill samples lent)
-    pub positive : 1 ≤ volume
+    -- "every volume positive"
+    pub positive : T (all (leb 1) volumes)
     pub refused : T (all (isRefused channels) (afterInitialise ++ (afterFrame ++ afterRecommendation)))
 
-  -- "The lead-in is capture switched on; then any list of these calls ..; then an initialise; then an accepted quiet frame with a positive volume, and its recommendation."
+  -- "The lead-in is capture switched on; then any list of these calls ..; then an initialise; then an accepted quiet frame with a positive volume, and its recommendation." Of a set every volume is positive.
   unfoldable pub callsOf : {enough : ℕ} → LeadIn enough → List Call
   callsOf l =
       captureSwitch true ∷ (l .body
       ++ (initialise ∷ (l .afterInitialise
-      ++ (frame (pos (l .volume)) (l .samples) (l .lent) ∷ (l .afterFrame
+      ++ (frame (map pos (l .volumes)) (l .samples) (l .lent) ∷ (l .afterFrame
       ++ (recommendation (l .probability) (l .level) ∷ l .afterRecommendation))))))

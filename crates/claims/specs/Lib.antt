@@ -23,6 +23,10 @@ pub mod Library
 pub mod Depends
 pub mod DependsEach
 pub mod AsOneInCode
+pub mod OneVolume
+pub mod EachTakesItsOwn
+pub mod LowestIsApplied
+pub mod Controlling
 pub mod Exact
 pub mod ExactFrame
 pub mod Unmarked

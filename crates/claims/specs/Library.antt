@@ -21,7 +21,7 @@ use Rattle.agc2.specs.declared.answers.Agc2Control.{Agc2Control}
 use Rattle.agc2.specs.declared.answers.Agc2Controller.{Agc2Controller}
 use Rattle.agc2.specs.Answers.{frameNumbers, volumeNumbers}
 use Rattle.agc2.specs.Whole.{wholeOf}
-use Rattle.agc2.specs.Calls.{CreatedWith, AnalyzedOf, RecommendedOf}
+use Rattle.agc2.specs.Calls.{CreatedWith, AnalyzedEachOf, RecommendedOf}
 use Rattle.claims.specs.Run.{Run}
 use Rattle.claims.specs.Made.{MadeAndHad}
 
@@ -36,7 +36,7 @@ pub data Numbers : Type 0 where
   nothing : Numbers
 
 abbrev pub inNumbers : Call → Reply → Numbers
-inNumbers (frame volume samples lent) says = ofFrame (frameNumbers says)
+inNumbers (frame volumes samples lent) says = ofFrame (frameNumbers says)
 inNumbers (recommendation probability level) says = ofRecommendation (volumeNumbers says)
 inNumbers initialise says = nothing
 inNumbers (captureSwitch on) says = nothing
@@ -52,8 +52,9 @@ abbrev pub withState : PlainControl → Agc2Controller → Agc2Controller
 withState state c = withControl (record { present = c .control .present; volume = c .control .volume; control = state }) c
 
 pub data LibraryCall : Agc2Controller → Call → Numbers → Agc2Controller → Type 0 where
-  framed : {c d : Agc2Controller} {volume : ℤ} {samples : ℕ} {lent : List Float} → AnalyzedOf (wholeOf c) volume samples lent d
-      → LibraryCall c (frame volume samples lent) (ofFrame (record { refusal = d .refusal; near = d .near })) d
+  -- `agc2_analyze_input_audio_into`: its contract `AnalyzedOf` is this at the volumes that its frame stands for (`volumesOf`), one for each channel, or the same for all
+  framed : {c d : Agc2Controller} {volumes : List ℤ} {samples : ℕ} {lent : List Float} → AnalyzedEachOf (wholeOf c) volumes samples lent d
+      → LibraryCall c (frame volumes samples lent) (ofFrame (record { refusal = d .refusal; near = d .near })) d
   recommended : {c : Agc2Controller} {control : Agc2Control} {probability : Float} {level : SpeechLevel} → RecommendedOf (wholeControl (c .control .control)) probability level control
       → LibraryCall c (recommendation probability level) (ofRecommendation (record { present = control .present; volume = control .volume })) (withControl control c)
   initialised : {c : Agc2Controller} {state : PlainControl} → ControlDoes (wholeControl (c .control .control)) initialise done (wholeControl state)

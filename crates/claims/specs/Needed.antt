@@ -1,7 +1,7 @@
--- Parts of the lead-in that are needed: without the initialise, with a last volume of 0, or with capture switched off in its list, two pasts can be told apart. Definitions only.
+-- Parts of the lead-in that are needed: without the initialise, with a last volume of 0 (of one channel of two is enough), or with capture switched off in its list, two pasts can be told apart. Definitions only.
 use mathlib.Core.Path.{_≡_}
 use mathlib.Core.Bool.{true, false}
-use mathlib.Core.List.{List, _∷_, _++_}
+use mathlib.Core.List.{List, [], _∷_, _++_, map}
 use Prim.Native.Nat.{ℕ}
 use lib.IntN.{pos}
 use Rattle.mono_input_volume_controller.specs.declared.config.Settings.{Settings}
@@ -15,19 +15,23 @@ use Rattle.claims.specs.Sharp.{waiting}
 
 -- ---- a lead-in with one part changed
 
-module _ {enough : ℕ} (l : LeadIn 1 quiet enough) where
-  -- from the last frame on, at this volume
-  abbrev pub endingAt : ℕ → List Call
-  endingAt volume = frame (pos volume) (l .samples) (l .lent) ∷ (l .afterFrame ++ (recommendation (l .probability) (l .level) ∷ l .afterRecommendation))
+module _ {channels enough : ℕ} (l : LeadIn channels quiet enough) where
+  -- from the last frame on, at these volumes
+  abbrev pub endingAt : List ℕ → List Call
+  endingAt volumes = frame (map pos volumes) (l .samples) (l .lent) ∷ (l .afterFrame ++ (recommendation (l .probability) (l .level) ∷ l .afterRecommendation))
 
   abbrev pub withoutInitialise : List Call
-  withoutInitialise = captureSwitch true ∷ (l .body ++ (l .afterInitialise ++ endingAt (l .volume)))
+  withoutInitialise = captureSwitch true ∷ (l .body ++ (l .afterInitialise ++ endingAt (l .volumes)))
 
   abbrev pub withVolumeZero : List Call
-  withVolumeZero = captureSwitch true ∷ (l .body ++ (initialise ∷ (l .afterInitialise ++ endingAt 0)))
+  withVolumeZero = captureSwitch true ∷ (l .body ++ (initialise ∷ (l .afterInitialise ++ endingAt (0 ∷ []))))
+
+  -- of two channels one has a positive volume
+  abbrev pub withOneZero : List Call
+  withOneZero = captureSwitch true ∷ (l .body ++ (initialise ∷ (l .afterInitialise ++ endingAt (255 ∷ 0 ∷ []))))
 
   abbrev pub withCaptureOff : List Call
-  withCaptureOff = captureSwitch true ∷ captureSwitch false ∷ (l .body ++ (initialise ∷ (l .afterInitialise ++ endingAt (l .volume))))
+  withCaptureOff = captureSwitch true ∷ captureSwitch false ∷ (l .body ++ (initialise ∷ (l .afterInitialise ++ endingAt (l .volumes))))
 
 -- with the default settings but no clipping wait, which the making takes, and this lead-in, each change lets two pasts be told apart
 pub record PartsAreNeeded : Type 0 where
@@ -37,4 +41,6 @@ pub record PartsAreNeeded : Type 0 where
   pub lead : LeadIn 1 quiet (enough settings)
   pub initialise-needed : AlikeAfter (fresh settings 1) (withoutInitialise lead) → ⊥
   pub volume-needed : AlikeAfter (fresh settings 1) (withVolumeZero lead) → ⊥
+  pub pair : LeadIn 2 quiet (enough settings)
+  pub every-volume-needed : AlikeAfter (fresh settings 2) (withOneZero pair) → ⊥
   pub capture-needed : AlikeAfter (fresh settings 1) (withCaptureOff lead) → ⊥

@@ -34,8 +34,8 @@ isRefusal done = false
 -- "accepted is not refused": a frame's reply is a refusal exactly where `isAccepted` fails
 abbrev pub AcceptedIsNotRefused : Type 0
 AcceptedIsNotRefused =
-    (c : Controller) (volume : ℤ) (samples : ℕ) (lent : List Float)
-    → isRefusal (step c (frame volume samples lent) .reply) ≡ not (isAccepted (length (c .control .channels)) volume samples lent)
+    (c : Controller) (volumes : List ℤ) (samples : ℕ) (lent : List Float)
+    → isRefusal (step c (frame volumes samples lent) .reply) ≡ not (isAccepted (length (c .control .channels)) volumes samples lent)
 
 -- a lead-in with exactly as many accepted frames
 abbrev pub LeadInOf : ℕ → (ℕ → List Float → Bool) → ℕ → Type 0

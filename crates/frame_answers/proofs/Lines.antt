@@ -6,10 +6,10 @@ use mathlib.Core.Option.{Option, none, some}
 use Prim.Native.Nat.{ℕ, _*_, _≤_, _<_}
 use native.Mathlib.Omega.{arith}
 use lib.Dec.{leb, eqb}
-use borrow.Author.Tests.{le-ltb}
+use borrow.Author.Tests.{le-ltb, eq-eqb}
 use lib.IntN.{ℤ, pos}
 use lib.Ieee.{Float}
-use lib.ListN.{length, take, length-map}
+use lib.ListN.{length, take, replicate, length-map, length-replicate}
 use Rattle.numbers.specs.declared.refusal.Refusal.{Refusal}
 use Rattle.numbers.specs.declared.refusal.Refusal.the-variants.{FrameLine, FrameSize}
 use Rattle.numbers.specs.Refusal.{numberOf}
@@ -26,7 +26,9 @@ use Rattle.input_volume_controller.specs.declared.Analyzed.{Analyzed}
 use Rattle.input_volume_controller.specs.declared.InputVolumeController.{InputVolumeController}
 use Rattle.input_volume_controller.specs.Controller.{Controller, viewOf, Good}
 use Rattle.input_volume_controller.specs.Reply.{Reply, mark, refusal, analysisSays}
+use Rattle.input_volume_controller.specs.Volumes.{equalVolumes, numberSet, numbersOf}
 use Rattle.input_volume_controller.specs.Calls.{Call, frame, recommendation, step, AnalyzedOf}
+use Rattle.input_volume_controller.proofs.Whole.{control-count}
 use Rattle.frame_lines.specs.declared.answer.Reply.the-variants.{Refused}
 use Rattle.frame_lines.specs.declared.line.Parsed.{Parsed}
 use Rattle.frame_lines.specs.declared.line.Parsed.the-variants as Parsed
@@ -40,6 +42,7 @@ use Rattle.frame_answers.specs.declared.stream.Ready.{Ready}
 use Rattle.frame_answers.specs.declared.stream.Ready.the-variants as Ready
 use Rattle.frame_answers.specs.Ready.{sizedIf, readyOf}
 use Rattle.frame_answers.specs.Answered.{Leads, AnsweredAs, VolumePending, RecommendedAs, Makes, FrameAnsweredAs}
+use Rattle.input_volume_controller.proofs.SetNumbers.{equal-numbers}
 use Rattle.frame_answers.proofs.Recommended.{frame-pending}
 
 -- ---- the definition, by the tests on the way
@@ -50,13 +53,13 @@ module _ (c : Controller) (line : List ℕ) where
   line-malformed e = ap (meantStep c) e
 
   module _ (f : Fields) (e : meaning line ≡ some f) where
-    pub line-refused : (n : ℕ) → step c (frameCall f) .reply ≡ refusal n → lineStep c line ≡ refusedLine n c
+    pub line-refused : (n : ℕ) → step c (frameCall (length (c .control .channels)) f) .reply ≡ refusal n → lineStep c line ≡ refusedLine n c
     unfolding lineStep
-    line-refused n r = ap (meantStep c) e ∙ ap (λ (x : Reply). afterFrame f c x (step c (frameCall f) .state)) r
+    line-refused n r = ap (meantStep c) e ∙ ap (λ (x : Reply). afterFrame f c x (step c (frameCall (length (c .control .channels)) f) .state)) r
 
-    pub line-marked : (near : Bool) → step c (frameCall f) .reply ≡ mark near → lineStep c line ≡ recommendedLine near (step (step c (frameCall f) .state) (recommendationCall f))
+    pub line-marked : (near : Bool) → step c (frameCall (length (c .control .channels)) f) .reply ≡ mark near → lineStep c line ≡ recommendedLine near (step (step c (frameCall (length (c .control .channels)) f) .state) (recommendationCall f))
     unfolding lineStep
-    line-marked near r = ap (meantStep c) e ∙ ap (λ (x : Reply). afterFrame f c x (step c (frameCall f) .state)) r
+    line-marked near r = ap (meantStep c) e ∙ ap (λ (x : Reply). afterFrame f c x (step c (frameCall (length (c .control .channels)) f) .state)) r
 
 -- ---- a frame that no controller takes
 
@@ -69,9 +72,16 @@ misfits : (k n : ℕ) (lent : List Float) → isFrameSize n ≡ false → frameF
 unfolding frameFits
 misfits k n lent e = still-false (leb 1 n) (leb n maxSamplesPerChannel) (eqb (length lent) (k * n)) e
 
-unfit : (c : Controller) (v n : ℕ) (lent : List Float) → v < 256 → isFrameSize n ≡ false → step c (frame (pos v) n lent) .reply ≡ refusal (numberOf FrameSize)
+-- the numbers of a line's volume, for any count of channels
+line-numbers : (v k : ℕ) → v < 256 → numbersOf (equalVolumes (pos v) k) ≡ numberSet (replicate k v)
+line-numbers v k h = equal-numbers (pos v) v k (sym (inside 0 maxInputVolume (pos v) (le-ltb v 0 (omega arith)) (omega arith) (omega arith)))
+
+unfit : (c : Controller) (v n : ℕ) (lent : List Float) → v < 256 → isFrameSize n ≡ false
+    → step c (frame (equalVolumes (pos v) (length (c .control .channels))) n lent) .reply ≡ refusal (numberOf FrameSize)
 unfolding analyzeInputAudio
-unfit c v n lent h e = λ i. unlessRefused (sym (inside 0 maxInputVolume (pos v) (le-ltb v 0 (omega arith)) (omega arith) (omega arith)) i) (misfits (length (c .control .channels)) n lent e i) n lent c .reply
+unfit c v n lent h e =
+    let k = length (c .control .channels) in
+    λ i. unlessRefused (eq-eqb (length (equalVolumes (pos v) k)) k (length-replicate k (pos v)) i) (line-numbers v k h i) (misfits k n lent e i) n lent c .reply
 
 -- ---- what the calls say
 
@@ -122,26 +132,36 @@ was-parsed (Parsed.Frame w q m k) v p l n e = let is = frame-if w k q m (Ready.F
 pub few : (line : List ℕ) (after : List Float) (v : ℕ) (p : Float) (l : SpeechLevel) (n : ℕ) → FrameOf line after v p l n → n ≤ mostSamples
 few line after v p l n f = omega (arith, f .count-is, few-samples line (f .meant) (f .means))
 
-pub makes-calls : (line : List ℕ) (after : List Float) (v : ℕ) (p : Float) (l : SpeechLevel) (n : ℕ) → FrameOf line after v p l n
-    → Makes line (frame (pos v) (length (take n after)) (take n after)) (recommendation p l)
-makes-calls line after v p l n f =
+pub makes-calls : (channels : ℕ) (line : List ℕ) (after : List Float) (v : ℕ) (p : Float) (l : SpeechLevel) (n : ℕ) → FrameOf line after v p l n
+    → Makes channels line (frame (equalVolumes (pos v) channels) (length (take n after)) (take n after)) (recommendation p l)
+makes-calls channels line after v p l n f =
     let count : length (take n after) ≡ length (f .meant .samples) = ap length (f .samples-are) ∙ length-map (f .meant .samples) sampleOf in
     record {
       meant = f .meant;
       means = f .means;
-      frame-is = λ i. frame (pos (f .volume-is i)) (count i) (f .samples-are i);
+      frame-is = λ i. frame (equalVolumes (pos (f .volume-is i)) channels) (count i) (f .samples-are i);
       recommendation-is = λ i. recommendation (f .probability-is i) (f .level-is i);
     }
 
 module _ (self : InputVolumeController) (z : ℤ) (n : ℕ) (lent : List Float) (a : Analyzed) (h : AnalyzedOf self z n lent a) (p : Float) (l : SpeechLevel) where
-  module _ (line : List ℕ) (m : Makes line (frame z n lent) (recommendation p l)) where
-    says : (answer : Analysis) → a .answer ≡ answer → step (viewOf self) (frameCall (m .meant)) .reply ≡ analysisSays answer
-    says answer q = sym (sym (ap analysisSays q) ∙ h .does .reply ∙ ap (λ (x : Call). step (viewOf self) x .reply) (m .frame-is))
+  abbrev channels : ℕ
+  channels = self .control .channels .count
 
-    state-is : viewOf (a .controller) ≡ step (viewOf self) (frameCall (m .meant)) .state
-    state-is = h .does .view ∙ ap (λ (x : Call). step (viewOf self) x .state) (m .frame-is)
+  abbrev heard : Call
+  heard = frame (equalVolumes z channels) n lent
 
-  pub refused-as : (cause : Refusal) → a .answer ≡ Analysis.Refused cause → FrameAnsweredAs self (frame z n lent) (recommendation p l) (record { controller = a .controller; reply = Refused cause })
+  module _ (line : List ℕ) (m : Makes channels line heard (recommendation p l)) where
+    call-is : heard ≡ frameCall (length (viewOf self .control .channels)) (m .meant)
+    unfolding viewOf
+    call-is = m .frame-is ∙ ap (λ (k : ℕ). frameCall k (m .meant)) (sym (control-count (self .control)))
+
+    says : (answer : Analysis) → a .answer ≡ answer → step (viewOf self) (frameCall (length (viewOf self .control .channels)) (m .meant)) .reply ≡ analysisSays answer
+    says answer q = sym (sym (ap analysisSays q) ∙ h .does .reply ∙ ap (λ (x : Call). step (viewOf self) x .reply) call-is)
+
+    state-is : viewOf (a .controller) ≡ step (viewOf self) (frameCall (length (viewOf self .control .channels)) (m .meant)) .state
+    state-is = h .does .view ∙ ap (λ (x : Call). step (viewOf self) x .state) call-is
+
+  pub refused-as : (cause : Refusal) → a .answer ≡ Analysis.Refused cause → FrameAnsweredAs self heard (recommendation p l) (record { controller = a .controller; reply = Refused cause })
   refused-as cause q line m = record {
     leads = leads-as _ _ _ (sym (line-refused (viewOf self) line (m .meant) (m .means) (numberOf cause) (says line m (Analysis.Refused cause) q)))
         (record { good = h .does .good; reply = refl; view = ap viewOf (h .same cause q) });
@@ -150,9 +170,11 @@ module _ (self : InputVolumeController) (z : ℤ) (n : ℕ) (lent : List Float) 
 
   module _ (near : Bool) (q : a .answer ≡ Analysis.Accepted near) where
     pub pending-after : VolumePending (viewOf (a .controller))
-    pending-after = subst VolumePending (sym (h .does .view)) (frame-pending (viewOf self) z n lent near (sym (h .does .reply) ∙ ap analysisSays q))
+    pending-after =
+        subst VolumePending (sym (h .does .view))
+        (frame-pending (viewOf self) (equalVolumes z (self .control .channels .count)) n lent near (sym (h .does .reply) ∙ ap analysisSays q))
 
-    pub accepted-as : (r : Answered) → RecommendedAs (a .controller) near p l r → FrameAnsweredAs self (frame z n lent) (recommendation p l) r
+    pub accepted-as : (r : Answered) → RecommendedAs (a .controller) near p l r → FrameAnsweredAs self heard (recommendation p l) r
     accepted-as r d line m = record {
       leads = leads-as _ _ r
           ((λ i. recommendedLine near (step (state-is line m i) (m .recommendation-is i)))

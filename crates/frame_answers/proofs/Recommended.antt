@@ -4,29 +4,27 @@ use mathlib.Core.Bool.{Bool, true, false, _||_}
 use mathlib.Core.List.{List}
 use Prim.Native.Nat.{ℕ, _≤_, max}
 use native.Mathlib.Omega.{arith}
-use lib.Dec.{ltb}
+use lib.Dec.{ltb, eqb}
 use lib.IntN.{ℤ, pos}
 use lib.Ieee.{Float, lt}
 use lib.ListN.{length}
-use Rattle.numbers.specs.declared.natural.Natural.{Natural}
-use Rattle.numbers.specs.declared.natural.Natural.the-variants.{Number, Outside}
-use Rattle.numbers.specs.Natural.{withinOf}
-use Rattle.numbers.proofs.Ranges.{told}
 use Rattle.clipping_predictor.specs.Predictor.{frameFits, enteredIf}
 use Rattle.mono_input_volume_controller.specs.declared.speech_level.SpeechLevel.{SpeechLevel}
 use Rattle.mono_input_volume_controller.specs.MonoState.{maxInputVolume}
 use Rattle.input_volume_controller.specs.declared.Applied.the-variants as Applied
 use Rattle.input_volume_controller.specs.declared.InputVolumeController.{InputVolumeController}
 use Rattle.input_volume_controller.specs.Control.{controlOf}
-use Rattle.input_volume_controller.specs.ControlCalls.{aggregated, withAppliedInputVolume, lowerChannels, processChannels}
+use Rattle.input_volume_controller.specs.ControlCalls.{aggregated, withAppliedInputVolumes, lowerChannels, processChannels}
 use Rattle.input_volume_controller.specs.Controller.{Controller, viewOf}
 use Rattle.input_volume_controller.specs.Reply.{Reply, mark, refusal, volume, none, done, Stepped}
 use Rattle.input_volume_controller.specs.ClippedRatio.{clippedRatio}
 use Rattle.clipping_predictor.specs.AllRings.{predictedBy}
 use Rattle.input_volume_controller.specs.Differ.{differ}
-use Rattle.input_volume_controller.specs.Frame.{askedOf, handleIf, unlessWaiting, ifUsed, withVolumeApplied, unlessRefused, analyzeInputAudio}
+use Rattle.input_volume_controller.specs.Volumes.{Volumes, outsideSet, numberSet, numbersOf, lowestOf}
+use Rattle.input_volume_controller.specs.Frame.{askedOf, handleIf, unlessWaiting, ifUsed, withVolumesApplied, unlessRefused, analyzeInputAudio}
 use Rattle.input_volume_controller.specs.Calls.{frame, recommendation, step, Does}
 use Rattle.input_volume_controller.proofs.Answers.{recommend-off, recommend-on}
+use Rattle.input_volume_controller.proofs.SetNumbers.{told-set, lowest-of-most}
 use Rattle.frame_answers.specs.Answered.{VolumePending}
 
 -- ---- a frame is marked or refused
@@ -63,34 +61,36 @@ used-tells true samples lent c =
     record { reply-is = w .reply-is; applied-is = w .applied-is }
 used-tells false samples lent c = record { reply-is = refl; applied-is = refl }
 
-refused-reply : (a : Natural) (fits : Bool) (samples : ℕ) (lent : List Float) (c : Controller) → isFrameReply (unlessRefused a fits samples lent c .reply) ≡ true
-refused-reply Outside fits samples lent c = refl
-refused-reply (Number v) false samples lent c = refl
-refused-reply (Number v) true samples lent c = used-tells (c .control .used) samples lent (withVolumeApplied v c) .reply-is
+refused-reply : (counted : Bool) (a : Volumes) (fits : Bool) (samples : ℕ) (lent : List Float) (c : Controller) → isFrameReply (unlessRefused counted a fits samples lent c .reply) ≡ true
+refused-reply false a fits samples lent c = refl
+refused-reply true outsideSet fits samples lent c = refl
+refused-reply true (numberSet v) false samples lent c = refl
+refused-reply true (numberSet v) true samples lent c = used-tells (c .control .used) samples lent (withVolumesApplied v c) .reply-is
 
-pub frame-reply : (c : Controller) (z : ℤ) (samples : ℕ) (lent : List Float) → isFrameReply (step c (frame z samples lent) .reply) ≡ true
+pub frame-reply : (c : Controller) (z : List ℤ) (samples : ℕ) (lent : List Float) → isFrameReply (step c (frame z samples lent) .reply) ≡ true
 unfolding analyzeInputAudio
-frame-reply c z samples lent = refused-reply (withinOf 0 maxInputVolume z) (frameFits (length (c .control .channels)) samples lent) samples lent c
+frame-reply c z samples lent = refused-reply (eqb (length z) (length (c .control .channels))) (numbersOf z) (frameFits (length (c .control .channels)) samples lent) samples lent c
 
 -- ---- an accepted frame's volume is pending
 
-applies : (v : ℕ) (c : Controller) → withVolumeApplied v c .control .applied ≡ Applied.Volume v
-unfolding withAppliedInputVolume aggregated
+applies : (v : List ℕ) (c : Controller) → withVolumesApplied v c .control .applied ≡ Applied.Volume (lowestOf v)
+unfolding withAppliedInputVolumes aggregated
 applies v c = refl
 
-module _ (c : Controller) (z : ℤ) (samples : ℕ) (lent : List Float) (near : Bool) where
-  pending-if : (a : Natural) (fits : Bool) → withinOf 0 maxInputVolume z ≡ a → unlessRefused a fits samples lent c .reply ≡ mark near → VolumePending (unlessRefused a fits samples lent c .state)
-  pending-if Outside fits w e = let x : _≡_ {A = ℕ} 0 1 = cc in absurd (omega arith)
-  pending-if (Number v) false w e = let x : _≡_ {A = ℕ} 0 1 = cc in absurd (omega arith)
-  pending-if (Number v) true w e = record {
-    applied = v;
-    pending = used-tells (c .control .used) samples lent (withVolumeApplied v c) .applied-is ∙ applies v c;
-    most = told 0 maxInputVolume z v w .most;
+module _ (c : Controller) (z : List ℤ) (samples : ℕ) (lent : List Float) (near : Bool) where
+  pending-if : (counted : Bool) (a : Volumes) (fits : Bool) → numbersOf z ≡ a → unlessRefused counted a fits samples lent c .reply ≡ mark near → VolumePending (unlessRefused counted a fits samples lent c .state)
+  pending-if false a fits w e = let x : _≡_ {A = ℕ} 0 1 = cc in absurd (omega arith)
+  pending-if true outsideSet fits w e = let x : _≡_ {A = ℕ} 0 1 = cc in absurd (omega arith)
+  pending-if true (numberSet v) false w e = let x : _≡_ {A = ℕ} 0 1 = cc in absurd (omega arith)
+  pending-if true (numberSet v) true w e = record {
+    applied = lowestOf v;
+    pending = used-tells (c .control .used) samples lent (withVolumesApplied v c) .applied-is ∙ applies v c;
+    most = lowest-of-most v (told-set z v w .most);
   }
 
   pub frame-pending : step c (frame z samples lent) .reply ≡ mark near → VolumePending (step c (frame z samples lent) .state)
   unfolding analyzeInputAudio
-  frame-pending e = pending-if (withinOf 0 maxInputVolume z) (frameFits (length (c .control .channels)) samples lent) refl e
+  frame-pending e = pending-if (eqb (length z) (length (c .control .channels))) (numbersOf z) (frameFits (length (c .control .channels)) samples lent) refl e
 
 -- ---- with a volume pending, the recommendation is a volume
 
@@ -103,7 +103,7 @@ volume-if c p l v true u = record { shown = _; is = ap (λ (s : Stepped). s .rep
 volume-if c p l v false u = record { shown = _; is = ap (λ (s : Stepped). s .reply) (recommend-off c p l (v .applied) (v .pending) u) }
 
 -- THE CLAIM: right after an accepted frame the recommendation is a volume, never none
-pub recommends-volume : (c : Controller) (z : ℤ) (samples : ℕ) (lent : List Float) (near : Bool) (p : Float) (l : SpeechLevel)
+pub recommends-volume : (c : Controller) (z : List ℤ) (samples : ℕ) (lent : List Float) (near : Bool) (p : Float) (l : SpeechLevel)
     → step c (frame z samples lent) .reply ≡ mark near → IsVolume (step (step c (frame z samples lent) .state) (recommendation p l) .reply)
 recommends-volume c z samples lent near p l e =
     let after = step c (frame z samples lent) .state in

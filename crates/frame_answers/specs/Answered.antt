@@ -46,13 +46,13 @@ pub record RecommendedAs (controller : InputVolumeController) (near : Bool) (pro
   pub leads : Leads (recommendedLine near (step (viewOf controller) (recommendation probability level))) r
   pub accepted : (cause : Refusal) → r .reply ≡ Refused cause → ⊥
 
--- a line in order, whose frame and recommendation are these calls
-pub record Makes (line : List ℕ) (heard asked : Call) : Type 0 where
+-- a line in order, whose frame, with its volume for so many channels, and recommendation are these calls
+pub record Makes (channels : ℕ) (line : List ℕ) (heard asked : Call) : Type 0 where
   pub meant : Fields
   pub means : meaning line ≡ some meant
-  pub frame-is : heard ≡ frameCall meant
+  pub frame-is : heard ≡ frameCall channels meant
   pub recommendation-is : asked ≡ recommendationCall meant
 
 -- what the private function says of a line's two calls: it answers every line that makes them
 abbrev pub FrameAnsweredAs : InputVolumeController → Call → Call → Answered → Type 0
-FrameAnsweredAs controller heard asked r = (line : List ℕ) → Makes line heard asked → AnsweredAs controller line r
+FrameAnsweredAs controller heard asked r = (line : List ℕ) → Makes (controller .control .channels .count) line heard asked → AnsweredAs controller line r

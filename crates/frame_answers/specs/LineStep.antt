@@ -10,15 +10,16 @@ use Rattle.numbers.specs.Refusal.{numberOf}
 use Rattle.input_volume_controller.specs.Controller.{Controller}
 use Rattle.input_volume_controller.specs.Reply.{Reply, mark, refusal, volume, done, Stepped}
 use Rattle.input_volume_controller.specs.Reply as Reply
+use Rattle.input_volume_controller.specs.Volumes.{equalVolumes}
 use Rattle.input_volume_controller.specs.Calls.{Call, frame, recommendation, step}
 use Rattle.frame_lines.specs.Line.{Fields, meaning}
 use Rattle.frame_lines.specs.Parsed.{floatOf, speechLevelOf, sampleOf}
 
 -- ---- the calls that a line makes
 
--- one channel: the frame has as many samples per channel as the line has samples
-abbrev pub frameCall : Fields → Call
-frameCall f = frame (pos (f .volume)) (length (f .samples)) (map sampleOf (f .samples))
+-- the line's volume is that of each channel, and the frame has as many samples per channel as the line has samples: a line is for one channel, and of more each line in order is refused with 9
+abbrev pub frameCall : ℕ → Fields → Call
+frameCall channels f = frame (equalVolumes (pos (f .volume)) channels) (length (f .samples)) (map sampleOf (f .samples))
 
 abbrev pub recommendationCall : Fields → Call
 recommendationCall f = recommendation (floatOf (f .probability)) (speechLevelOf (f .level))
@@ -61,7 +62,7 @@ afterFrame f c done heard = refusedLine 0 c
 -- by what it means: cause 12 is "malformed frame line"
 abbrev pub meantStep : Controller → Option Fields → LineStep
 meantStep c none = refusedLine (numberOf FrameLine) c
-meantStep c (some f) = afterFrame f c (step c (frameCall f) .reply) (step c (frameCall f) .state)
+meantStep c (some f) = afterFrame f c (step c (frameCall (length (c .control .channels)) f) .reply) (step c (frameCall (length (c .control .channels)) f) .state)
 
 unfoldable pub lineStep : Controller → List ℕ → LineStep
 lineStep c line = meantStep c (meaning line)

@@ -1,7 +1,7 @@
 -- The channels of a controller: what the loops over them do to the list of their states. Assumes nothing.
 use mathlib.Core.Path.{_≡_, refl, sym, ap, subst, _∙_}
 use mathlib.Core.Bool.{Bool, true, false, not, _||_}
-use mathlib.Core.List.{List}
+use mathlib.Core.List.{List, [], _∷_}
 use Prim.Native.Nat.{ℕ, zero, suc, _+_, _≤_, _<_}
 use native.Mathlib.Nat.{not-suc-le-zero}
 use native.Mathlib.Omega.{arith}
@@ -12,12 +12,14 @@ use Rattle.numbers.proofs.Arrays.{Replaced}
 use Rattle.clipping_predictor.specs.Predictor.{maxChannels}
 use Rattle.mono_input_volume_controller.specs.declared.mono.MonoInputVolumeController.{MonoInputVolumeController}
 use Rattle.input_volume_controller.specs.declared.channels.ChannelCall.{ChannelCall}
+use Rattle.input_volume_controller.specs.declared.channels.ChannelCall.the-variants.{StreamAnalogLevel}
 use Rattle.input_volume_controller.specs.declared.channels.Channels.{Channels}
 use Rattle.input_volume_controller.specs.declared.channels.Aggregate.{Aggregate}
 use Rattle.mono_input_volume_controller.specs.MonoState as Mono
 use Rattle.mono_input_volume_controller.specs.SameVolumes.{sameVolumes}
 use Rattle.input_volume_controller.specs.Differ.{otherVolumes}
-use Rattle.input_volume_controller.specs.Channels.{noChannel, channelAt, channelsOf, Good, Becomes, called, eachCalled, lowerOf, aggregateFrom, aggregateOf}
+use Rattle.input_volume_controller.specs.Channels.{noChannel, channelAt, channelsOf, Good, Becomes, called, eachCalled, eachGiven, lowerOf, aggregateFrom, aggregateOf}
+use Rattle.input_volume_controller.specs.VolumeSet.{levelAt, levelsOf}
 
 pub count-is : (c : Channels) → length (channelsOf c) ≡ c .count
 unfolding channelsOf
@@ -25,22 +27,52 @@ count-is c = length-listed (channelAt c) (c .count)
 
 -- ---- one call of every channel
 
-abbrev pub CalledAt : ChannelCall → ℕ → MonoInputVolumeController → MonoInputVolumeController → Type 0
-CalledAt call channel old new = Mono.Becomes (called call old) new
+-- what a loop leaves that calls each channel by its place
+module _ (call : ℕ → ChannelCall) where
+  abbrev pub CalledAt : ℕ → MonoInputVolumeController → MonoInputVolumeController → Type 0
+  CalledAt channel old new = Mono.Becomes (called (call channel) old) new
 
-pub all-called : (call : ChannelCall) (c r : Channels) → Good c → r .count ≡ c .count → Replaced noChannel (CalledAt call) (c .count) (c .items) (r .items) → Becomes (eachCalled call (channelsOf c)) r
+  called-listed : (c r : Channels) → Good c → r .count ≡ c .count → Replaced noChannel CalledAt (c .count) (c .items) (r .items) → Becomes (listed (λ i. called (call i) (channelAt c i)) (c .count)) r
+  unfolding channelsOf
+  called-listed c r good e done = record {
+    good = record {
+      low = omega (arith, e, good .low);
+      high = omega (arith, e, good .high);
+      places = done .same-length ∙ good .places;
+      each = λ i h. done .done i (omega (arith, e)) .good;
+    };
+    is = ap (listed (channelAt r)) e ∙ listed-same (channelAt r) (λ i. called (call i) (channelAt c i)) (c .count) (λ i h. done .done i h .is);
+  }
+
+-- the same call for each
+pub all-called : (call : ChannelCall) (c r : Channels) → Good c → r .count ≡ c .count → Replaced noChannel (CalledAt (λ _. call)) (c .count) (c .items) (r .items) → Becomes (eachCalled call (channelsOf c)) r
 unfolding channelsOf
-all-called call c r good e done = record {
-  good = record {
-    low = omega (arith, e, good .low);
-    high = omega (arith, e, good .high);
-    places = done .same-length ∙ good .places;
-    each = λ i h. done .done i (omega (arith, e)) .good;
-  };
-  is =
-      ap (listed (channelAt r)) e ∙ listed-same (channelAt r) (λ i. called call (channelAt c i)) (c .count) (λ i h. done .done i h .is)
-      ∙ sym (map-listed (called call) (channelAt c) (c .count));
-}
+all-called call c r good e done =
+    let b = called-listed (λ _. call) c r good e done in
+    record { good = b .good; is = b .is ∙ sym (map-listed (called call) (channelAt c) (c .count)) }
+
+-- its own volume for each
+given-listed : (levels : ℕ → ℕ) (f : ℕ → MonoInputVolumeController) (n : ℕ) → eachGiven (listed levels n) (listed f n) ≡ listed (λ i. called (StreamAnalogLevel (levels i)) (f i)) n
+unfolding eachGiven listed
+given-listed levels f zero = refl
+given-listed levels f (suc n) = ap (λ (l : List MonoInputVolumeController). called (StreamAnalogLevel (levels 0)) (f 0) ∷ l) (given-listed (λ i. levels (suc i)) (λ i. f (suc i)) n)
+
+abbrev pub ownLevel : List ℕ → ℕ → ChannelCall
+ownLevel levels channel = StreamAnalogLevel (levelAt levels channel)
+
+pub all-given : (levels : List ℕ) (c r : Channels) → Good c → r .count ≡ c .count → Replaced noChannel (CalledAt (ownLevel levels)) (c .count) (c .items) (r .items)
+    → Becomes (eachGiven (levelsOf levels (c .count)) (channelsOf c)) r
+unfolding channelsOf levelsOf
+all-given levels c r good e done =
+    let b = called-listed (ownLevel levels) c r good e done in
+    record { good = b .good; is = b .is ∙ sym (given-listed (levelAt levels) (channelAt c) (c .count)) }
+
+-- as many channels as before
+pub length-given : (levels : List ℕ) (channels : List MonoInputVolumeController) → length (eachGiven levels channels) ≡ length channels
+unfolding eachGiven
+length-given levels [] = refl
+length-given [] (m ∷ ms) = refl
+length-given (l ∷ levels) (m ∷ ms) = ap suc (length-given levels ms)
 
 -- what two calls leave are as many
 pub called-alike : (c a b : Channels) (x y : ChannelCall) → Becomes (eachCalled x (channelsOf c)) a → Becomes (eachCalled y (channelsOf c)) b → b .count ≡ a .count

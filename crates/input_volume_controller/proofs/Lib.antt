@@ -1,4 +1,6 @@
 pub mod ChannelLists
+pub mod SetNumbers
+pub mod Sets
 pub mod Volumes
 pub mod Built
 pub mod Whole

@@ -22,7 +22,8 @@ use Rattle.mono_input_volume_controller.specs.MonoState.{maxInputVolume}
 use Rattle.input_volume_controller.specs.Channels.{channelsOf, called, eachCalled, aggregateOf}
 use Rattle.input_volume_controller.specs.Channels as Channels
 use Rattle.input_volume_controller.specs.Control.{Control, controlOf, Good, Becomes, withChannels, withSince, withUsed, withApplied, withVolume}
-use Rattle.input_volume_controller.specs.ControlCalls.{raisedFor, aggregated, withAppliedInputVolume, initialize, switchCapture, lowerChannels, processChannels}
+use Rattle.input_volume_controller.specs.ControlCalls.{raisedFor, aggregated, withAppliedInputVolumes, initialize, switchCapture, lowerChannels, processChannels}
+use Rattle.input_volume_controller.proofs.ChannelLists.{length-given}
 
 -- ---- the minimum
 
@@ -70,17 +71,16 @@ module _ (c : VolumeControl) (good : Good c) where
       let k = ap (λ (x : Aggregate). x .channel) p in
       record { good = record { settings = good .settings; channels = good .channels; volume = h }; is = λ i. withVolume (v i) (k i) (controlOf c) }
 
-  -- every channel called, and the volume taken with one volume pending and another left so
-  pub called-so : (channels : Channels) (said : List MonoInputVolumeController) (pending left : Applied) (a : Aggregate) (volume : ℕ) → Channels.Becomes said channels → volume ≤ maxInputVolume
+  -- the channels put in, and the volume taken with one volume pending and another left so
+  pub channels-left : (channels : Channels) (pending left : Applied) (a : Aggregate) (volume : ℕ) → Channels.Good channels → volume ≤ maxInputVolume
       → a ≡ aggregateOf (channelsOf channels) → volume ≡ raisedFor pending (c .settings .least) (a .volume)
-      → Becomes (withApplied left (aggregated (withApplied pending (withChannels said (controlOf c)))))
+      → Becomes (withApplied left (aggregated (withApplied pending (withChannels (channelsOf channels) (controlOf c)))))
       (record { settings = c .settings; channels = channels; since = c .since; used = c .used; applied = left; volume = volume; controlling = a .channel })
   unfolding controlOf aggregated
-  called-so channels said pending left a volume b h p q =
-      let e = p ∙ ap aggregateOf (b .is) in
-      let v = q ∙ ap (λ (x : Aggregate). raisedFor pending (c .settings .least) (x .volume)) e in
-      let k = ap (λ (x : Aggregate). x .channel) e in
-      record { good = record { settings = good .settings; channels = b .good; volume = h }; is = λ i. withApplied left (withVolume (v i) (k i) (withChannels (b .is i) (controlOf c))) }
+  channels-left channels pending left a volume b h p q =
+      let v = q ∙ ap (λ (x : Aggregate). raisedFor pending (c .settings .least) (x .volume)) p in
+      let k = ap (λ (x : Aggregate). x .channel) p in
+      record { good = record { settings = good .settings; channels = b; volume = h }; is = λ i. withApplied left (withVolume (v i) (k i) (withChannels (channelsOf channels) (controlOf c))) }
 
 -- ---- no call changes how many channels there are
 
@@ -95,9 +95,9 @@ module _ (c : Control) where
   pub switch-count : (on : Bool) → length (switchCapture on c .channels) ≡ length (c .channels)
   switch-count on = called-count _ (c .channels)
 
-  pub applied-count : (volume : ℕ) → length (withAppliedInputVolume volume c .channels) ≡ length (c .channels)
-  unfolding withAppliedInputVolume aggregated
-  applied-count volume = called-count _ (c .channels)
+  pub applied-count : (volumes : List ℕ) → length (withAppliedInputVolumes volumes c .channels) ≡ length (c .channels)
+  unfolding withAppliedInputVolumes aggregated
+  applied-count volumes = length-given volumes (c .channels)
 
   pub lower-count : (step : ℕ) → length (lowerChannels step c .channels) ≡ length (c .channels)
   unfolding lowerChannels aggregated
@@ -111,9 +111,9 @@ module _ (c : Control) where
   unfolding aggregated
   aggregate-count = refl
 
-  pub applied-used : (volume : ℕ) → withAppliedInputVolume volume c .used ≡ c .used
-  unfolding withAppliedInputVolume aggregated
-  applied-used volume = refl
+  pub applied-used : (volumes : List ℕ) → withAppliedInputVolumes volumes c .used ≡ c .used
+  unfolding withAppliedInputVolumes aggregated
+  applied-used volumes = refl
 
 -- a target is a small number
 pub target-small : (z : ℤ) → lowestDb ≤ℤ z → z ≤ℤ highestDb → mag z < 2 ^ 31

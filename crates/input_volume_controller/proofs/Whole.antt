@@ -5,7 +5,9 @@ use mathlib.Core.List.{List, [], _∷_}
 use Prim.Native.Nat.{ℕ, zero, suc, _≤_, _<_, max}
 use native.Mathlib.Nat.{not-suc-le-zero, le-of-suc-le-suc}
 use native.Mathlib.Omega.{arith}
-use lib.Dec.{ltb}
+use lib.Dec.{T, ltb, eqb, eqb→eq}
+use lib.IntN.{ℤ}
+use lib.Ieee.{Float}
 use borrow.Author.Tests.{lt-ltb, le-ltb}
 use lib.ListN.{length, length-map, getD}
 use Rattle.numbers.specs.declared.refusal.Refusal.{Refusal}
@@ -16,21 +18,24 @@ use Rattle.clipping_predictor_level_buffer.specs.declared.Stored.the-variants.{
 use Rattle.clipping_predictor_level_buffer.specs.Ring.{stored, storedAt}
 use Rattle.clipping_predictor.specs.declared.modes.Estimated.{Estimated}
 use Rattle.clipping_predictor.specs.declared.ClippingPredictor.{ClippingPredictor}
-use Rattle.clipping_predictor.specs.Predictor.{Predictor, ringAt, pushEach, enteredIf, emptied}
+use Rattle.clipping_predictor.specs.Predictor.{Predictor, frameFits, ringAt, pushEach, enteredIf, emptied}
 use Rattle.clipping_predictor.specs.Predictor as PredictorOf
 use Rattle.clipping_predictor.specs.AllRings.{predictedBy}
 use Rattle.input_volume_controller.specs.declared.volume_control.VolumeControl.{VolumeControl}
 use Rattle.input_volume_controller.specs.declared.InputVolumeController.{InputVolumeController}
 use Rattle.input_volume_controller.specs.declared.Analysis.the-variants.{Accepted, Refused}
 use Rattle.input_volume_controller.specs.declared.Analyzed.{Analyzed}
+use Rattle.input_volume_controller.specs.declared.volume_set.VolumeSet.{VolumeSet}
+use Rattle.input_volume_controller.specs.Volumes.{Volumes, numbersOf}
+use Rattle.input_volume_controller.specs.VolumeSet.{volumesIn, SetOf}
 use Rattle.input_volume_controller.specs.Control.{Control, controlOf}
 use Rattle.input_volume_controller.specs.Control as ControlOf
 use Rattle.input_volume_controller.specs.ControlCalls.{lowerChannels, oneFrameMore}
 use Rattle.input_volume_controller.specs.Controller.{Controller, together, viewOf, Good, Becomes}
 use Rattle.input_volume_controller.specs.Reply.{Reply, mark, Stepped}
 use Rattle.input_volume_controller.specs.Differ.{differ}
-use Rattle.input_volume_controller.specs.Frame.{askedOf, handled, unlessWaiting}
-use Rattle.input_volume_controller.specs.Calls.{Call, Typed, Does, ControlDoes, Framed}
+use Rattle.input_volume_controller.specs.Frame.{askedOf, handled, unlessWaiting, unlessRefused, analyzeInputAudio}
+use Rattle.input_volume_controller.specs.Calls.{Call, frame, step, Typed, Does, ControlDoes, Framed, analyzeSet, AnalyzedSetOf, AnalyzedEachOf}
 use Rattle.input_volume_controller.proofs.ChannelLists.{count-is}
 
 -- ---- its two parts
@@ -39,6 +44,10 @@ use Rattle.input_volume_controller.proofs.ChannelLists.{count-is}
 pub control-count : (c : VolumeControl) → length (controlOf c .channels) ≡ c .channels .count
 unfolding controlOf
 control-count c = count-is (c .channels)
+
+pub whole-count : (c : InputVolumeController) → length (viewOf c .control .channels) ≡ c .control .channels .count
+unfolding viewOf
+whole-count c = control-count (c .control)
 
 predictor-count : (p : ClippingPredictor) → length (PredictorOf.viewOf p .rings) ≡ p .channels
 unfolding PredictorOf.viewOf
@@ -143,6 +152,37 @@ framed s near state r e b = record {
 
 pub framed-same : {s t : Stepped} {r : Analyzed} → s ≡ t → Framed s r → Framed t r
 framed-same {r = r} e f = subst (λ (x : Stepped). Framed x r) e f
+
+-- ---- a frame with its volumes
+
+-- another length is refused, whatever the volumes are; and as many are what was given
+counted-by : (counted : Bool) (one other : Volumes) (fits : Bool) (samples : ℕ) (lent : List Float) (c : Controller) → (counted ≡ true → one ≡ other)
+    → unlessRefused counted one fits samples lent c ≡ unlessRefused counted other fits samples lent c
+counted-by false one other fits samples lent c h = refl
+counted-by true one other fits samples lent c h = ap (λ (v : Volumes). unlessRefused true v fits samples lent c) (h refl)
+
+module _ (self : InputVolumeController) (good : Good self) (volumes : List ℤ) (set : VolumeSet) (is : SetOf volumes set) (samples : ℕ) (lent : List Float) where
+  abbrev channels : ℕ
+  channels = length (viewOf self .control .channels)
+
+  -- as many as the channels, 1 to 8
+  numbers-at : (n : ℕ) → n ≡ self .control .channels .count → eqb (length volumes) n ≡ true → volumesIn n set ≡ numbersOf volumes
+  numbers-at n e t =
+      let k = eqb→eq (length volumes) n (subst T (sym t) tt) in
+      let c = good .control .channels in
+      subst (λ (m : ℕ). volumesIn m set ≡ numbersOf volumes) k (is .numbers (omega (arith, c .low)) (omega (arith, c .high)))
+
+  set-step : analyzeSet set samples lent (viewOf self) ≡ step (viewOf self) (frame volumes samples lent)
+  unfolding analyzeInputAudio
+  set-step =
+      ap (λ (n : ℕ). unlessRefused (eqb n channels) (volumesIn channels set) (frameFits channels samples lent) samples lent (viewOf self)) (is .count)
+      ∙ counted-by (eqb (length volumes) channels) (volumesIn channels set) (numbersOf volumes) (frameFits channels samples lent) samples lent (viewOf self) (numbers-at channels (whole-count self))
+
+  pub of-set : {r : Analyzed} → AnalyzedSetOf self set samples lent r → AnalyzedEachOf self volumes samples lent r
+  of-set t = record {
+    does = record { good = t .good; typed = t .typed; reply = t .reply ∙ ap (λ (x : Stepped). x .reply) set-step; view = t .view ∙ ap (λ (x : Stepped). x .state) set-step };
+    same = t .same;
+  }
 
 -- a frame within the wait, and after it
 module _ (clipped : Bool) (since wait : ℕ) (c : Controller) where

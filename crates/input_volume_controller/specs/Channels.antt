@@ -69,6 +69,13 @@ called (Process error probability) m = processed error probability m
 abbrev pub eachCalled : ChannelCall → List MonoInputVolumeController → List MonoInputVolumeController
 eachCalled call channels = map (called call) channels
 
+-- each channel with its own volume of a set, by place; a set that is accepted is as long as the channels
+unfoldable pub eachGiven : List ℕ → List MonoInputVolumeController → List MonoInputVolumeController
+unfolding called
+eachGiven volumes [] = []
+eachGiven [] (m ∷ ms) = m ∷ ms
+eachGiven (volume ∷ volumes) (m ∷ ms) = called (StreamAnalogLevel volume) m ∷ eachGiven volumes ms
+
 -- ---- `aggregate_channel_levels`
 
 -- a channel with a lower volume than those before it takes their place

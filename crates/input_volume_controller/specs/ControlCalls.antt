@@ -1,14 +1,16 @@
 -- Document 01, "All channels": what a call does with the channels and the controller's volume. Initialise, the capture switch and the recommendation touch nothing else. Definitions only.
 use mathlib.Core.Bool.{Bool, true}
+use mathlib.Core.List.{List}
 use Prim.Native.Nat.{ℕ, zero, suc, _+_, max}
 use lib.Ieee.{Float}
 use Rattle.mono_input_volume_controller.specs.declared.speech_level.SpeechLevel.{SpeechLevel}
-use Rattle.input_volume_controller.specs.declared.channels.ChannelCall.the-variants.{Initialize, CaptureOutputUsed, StreamAnalogLevel, Clipping, Process}
+use Rattle.input_volume_controller.specs.declared.channels.ChannelCall.the-variants.{Initialize, CaptureOutputUsed, Clipping, Process}
 use Rattle.input_volume_controller.specs.declared.Applied.{Applied}
 use Rattle.input_volume_controller.specs.declared.Applied.the-variants.{Nothing, Volume}
 use Rattle.mono_input_volume_controller.specs.SpeechLevel.{rmsErrorOf}
-use Rattle.input_volume_controller.specs.Channels.{aggregateOf}
-use Rattle.input_volume_controller.specs.Control.{Control, withSince, withUsed, withApplied, withVolume, eachChannel}
+use Rattle.input_volume_controller.specs.Volumes.{lowestOf}
+use Rattle.input_volume_controller.specs.Channels.{eachGiven, aggregateOf}
+use Rattle.input_volume_controller.specs.Control.{Control, withChannels, withSince, withUsed, withApplied, withVolume, eachChannel}
 
 -- ---- `aggregate_channel_levels`
 
@@ -25,10 +27,10 @@ aggregated c = withVolume (raisedFor (c .applied) (c .settings .least) (aggregat
 
 -- ---- `set_applied_input_volume`, `initialize`, `handle_capture_output_used_change`
 
--- a frame's volume enters the channels here, and is pending from now on
-unfoldable pub withAppliedInputVolume : ℕ → Control → Control
-unfolding aggregated
-withAppliedInputVolume volume c = aggregated (withApplied (Volume volume) (eachChannel (StreamAnalogLevel volume) c))
+-- Document 02 (xiv): the volumes of a frame enter the channels here, each its own; "The lowest is the frame's applied volume", and is pending from now on
+unfoldable pub withAppliedInputVolumes : List ℕ → Control → Control
+unfolding aggregated eachGiven lowestOf
+withAppliedInputVolumes volumes c = aggregated (withApplied (Volume (lowestOf volumes)) (withChannels (eachGiven volumes (c .channels)) c))
 
 -- the volume is taken with the applied one still pending; the count of frames since clipping stays
 unfoldable pub initialize : Control → Control

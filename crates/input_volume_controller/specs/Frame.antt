@@ -1,16 +1,13 @@
--- Document 01, "All channels": a frame, by the source's `analyze_input_audio`; causes 8 and 9. Definitions only.
+-- Document 01, "All channels", and document 02 (xiv): a frame with a volume for each channel, by the source's `analyze_input_audio`; causes 20, 8 and 9. Definitions only.
 use mathlib.Core.Bool.{Bool, true, false, _||_}
 use mathlib.Core.List.{List}
 use Prim.Native.Nat.{ℕ, max}
-use lib.Dec.{ltb}
+use lib.Dec.{ltb, eqb}
 use lib.IntN.{ℤ}
 use lib.Ieee.{Float, lt}
 use lib.ListN.{length}
-use Rattle.numbers.specs.declared.natural.Natural.{Natural}
-use Rattle.numbers.specs.declared.natural.Natural.the-variants.{Number, Outside}
 use Rattle.numbers.specs.declared.refusal.Refusal.{Refusal}
-use Rattle.numbers.specs.declared.refusal.Refusal.the-variants.{InputVolume, FrameSize}
-use Rattle.numbers.specs.Natural.{withinOf}
+use Rattle.numbers.specs.declared.refusal.Refusal.the-variants.{InputVolume, FrameSize, VolumeCount}
 use Rattle.numbers.specs.Refusal.{numberOf}
 use Rattle.clipping_predictor.specs.declared.modes.Asked.{Asked}
 use Rattle.clipping_predictor.specs.declared.modes.Estimated.{Estimated}
@@ -20,8 +17,9 @@ use Rattle.clipping_predictor.specs.Predictor.{Predictor, frameFits, enteredIf,
 use Rattle.clipping_predictor.specs.AllRings.{predictedBy}
 use Rattle.input_volume_controller.specs.ClippedRatio.{clippedRatio}
 use Rattle.mono_input_volume_controller.specs.MonoState.{maxInputVolume}
+use Rattle.input_volume_controller.specs.Volumes.{Volumes, outsideSet, numberSet, numbersOf}
 use Rattle.input_volume_controller.specs.Control.{Control}
-use Rattle.input_volume_controller.specs.ControlCalls.{withAppliedInputVolume, lowerChannels, oneFrameMore}
+use Rattle.input_volume_controller.specs.ControlCalls.{withAppliedInputVolumes, lowerChannels, oneFrameMore}
 use Rattle.input_volume_controller.specs.Controller.{Controller}
 use Rattle.input_volume_controller.specs.Differ.{differ}
 use Rattle.input_volume_controller.specs.Reply.{mark, refusal, Stepped}
@@ -52,9 +50,9 @@ returnedBy clipped drop c = handleIf (clipped || ltb 0 drop) (max (c .control .s
 abbrev pub handled : Bool → Estimated → Controller → Stepped
 handled clipped e c = record { reply = mark (differ clipped (c .control) (e .low) (e .high)); state = returnedBy clipped (e .drop) c }
 
--- its volume is applied
-abbrev pub withVolumeApplied : ℕ → Controller → Controller
-withVolumeApplied volume c = record { control = withAppliedInputVolume volume (c .control); predictor = c .predictor }
+-- its volumes are applied
+abbrev pub withVolumesApplied : List ℕ → Controller → Controller
+withVolumesApplied volumes c = record { control = withAppliedInputVolumes volumes (c .control); predictor = c .predictor }
 
 -- a refusal hands the state back
 abbrev pub refusedWith : Refusal → Controller → Stepped
@@ -75,14 +73,16 @@ module _ (predicted : Asked → Predictor → Estimated) where
       (record { control = c .control; predictor = enteredIf true samples lent (c .predictor) })
   ifUsedBy false samples lent c = record { reply = mark false; state = c }
 
-  -- causes 8 and 9, in that order, hand the state back
-  abbrev pub unlessRefusedBy : Natural → Bool → ℕ → List Float → Controller → Stepped
-  unlessRefusedBy Outside fits samples lent c = refusedWith InputVolume c
-  unlessRefusedBy (Number volume) false samples lent c = refusedWith FrameSize c
-  unlessRefusedBy (Number volume) true samples lent c = ifUsedBy (c .control .used) samples lent (withVolumeApplied volume c)
+  -- "It refuses with 20 a set whose length isn't the channel count, then with 8 a set with any volume outside 0 to 255, then as before", with 9; each hands the state back
+  abbrev pub unlessRefusedBy : Bool → Volumes → Bool → ℕ → List Float → Controller → Stepped
+  unlessRefusedBy false volumes fits samples lent c = refusedWith VolumeCount c
+  unlessRefusedBy true outsideSet fits samples lent c = refusedWith InputVolume c
+  unlessRefusedBy true (numberSet volumes) false samples lent c = refusedWith FrameSize c
+  unlessRefusedBy true (numberSet volumes) true samples lent c = ifUsedBy (c .control .used) samples lent (withVolumesApplied volumes c)
 
-  abbrev pub frameBy : ℤ → ℕ → List Float → Controller → Stepped
-  frameBy volume samples lent c = unlessRefusedBy (withinOf 0 maxInputVolume volume) (frameFits (length (c .control .channels)) samples lent) samples lent c
+  abbrev pub frameBy : List ℤ → ℕ → List Float → Controller → Stepped
+  frameBy volumes samples lent c =
+      unlessRefusedBy (eqb (length volumes) (length (c .control .channels))) (numbersOf volumes) (frameFits (length (c .control .channels)) samples lent) samples lent c
 
 -- with the estimates of the rings
 abbrev pub unlessWaiting : Bool → Bool → Controller → Stepped
@@ -91,9 +91,9 @@ unlessWaiting = unlessWaitingBy predictedBy
 abbrev pub ifUsed : Bool → ℕ → List Float → Controller → Stepped
 ifUsed = ifUsedBy predictedBy
 
-abbrev pub unlessRefused : Natural → Bool → ℕ → List Float → Controller → Stepped
+abbrev pub unlessRefused : Bool → Volumes → Bool → ℕ → List Float → Controller → Stepped
 unlessRefused = unlessRefusedBy predictedBy
 
-unfoldable pub analyzeInputAudio : ℤ → ℕ → List Float → Controller → Stepped
-unfolding predictedBy
+unfoldable pub analyzeInputAudio : List ℤ → ℕ → List Float → Controller → Stepped
+unfolding predictedBy numbersOf
 analyzeInputAudio = frameBy predictedBy

@@ -1,4 +1,6 @@
 pub mod ClippedRatio
+pub mod Volumes
+pub mod VolumeSet
 pub mod Channels
 pub mod Control
 pub mod ControlCalls

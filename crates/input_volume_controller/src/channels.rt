@@ -1,4 +1,4 @@
-// The controllers of all channels: one loop serves every call of each of them, and one finds the lowest volume.
+// The controllers of all channels: one loop serves every call that is the same for each of them, one gives each its own volume, and one finds the lowest.
 ghost use mathlib.Core.Path.{_≡_};
 ghost use Prim.Native.Nat.{_≤_};
 ghost use lib.ListN.{replicate};
@@ -6,7 +6,8 @@ ghost use Rattle.clipping_predictor.specs.Predictor.{maxChannels};
 ghost use Rattle.mono_input_volume_controller.specs.Config.{Good as GoodSettings};
 ghost use Rattle.mono_input_volume_controller.specs.MonoState.{Good as GoodChannel, Becomes as BecomesChannel};
 ghost use Rattle.mono_input_volume_controller.specs.Mono.{created};
-ghost use Rattle.input_volume_controller.specs.Channels.{Good, Becomes, called, channelsOf, eachCalled, lowerOf, aggregateOf};
+ghost use Rattle.input_volume_controller.specs.Channels.{Good, Becomes, called, channelsOf, eachCalled, eachGiven, lowerOf, aggregateOf};
+ghost use Rattle.input_volume_controller.specs.VolumeSet.{levelsOf};
 ghost use Rattle.input_volume_controller.specs.Differ.{otherVolumes, lowerDifferently};
 use clipping_predictor::MAX_CHANNELS;
 use mono_input_volume_controller::config::Settings;
@@ -102,6 +103,20 @@ impl Channels {
         for i in 0..count {
             let m = c.items[i];
             c.items[i] = call_one(m, call);
+        }
+        c
+    }
+
+    // Each channel gets its own volume: the one call that is not the same for all, and the one of every frame, so it does not go through the loop above.
+    pub fn given(self, levels: [u8; MAX_CHANNELS]) -> Channels
+        requires { ⌜ Good self ⌝ }
+        ensures { λ r. ⌜ Becomes (eachGiven (levelsOf levels (self .count)) (channelsOf self)) r ⌝ }
+    {
+        let count = self.count;
+        let mut c = self;
+        for i in 0..count {
+            let m = c.items[i];
+            c.items[i] = m.set_stream_analog_level(levels[i]);
         }
         c
     }

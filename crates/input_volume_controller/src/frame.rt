@@ -1,4 +1,4 @@
-// What an accepted frame does, once its volume is applied. The two parts of the controller are handed on apart: the rings, which are most of it, are then copied only where they
+// What an accepted frame does, once its volumes are applied. The two parts of the controller are handed on apart: the rings, which are most of it, are then copied only where they
 // change and where the answer is made.
 ghost use mathlib.Core.Path.{_≡_};
 ghost use mathlib.Core.Bool.{true};

@@ -8,11 +8,14 @@ ghost use Rattle.clipping_predictor_level_buffer.specs.Ring.{storedSays, stored
 ghost use Rattle.clipping_predictor_level_buffer.specs.Metrics.{metricsSays};
 ghost use Rattle.input_volume_controller.specs.Controller.{viewOf, Good, CreatedWith, CreatedOf};
 ghost use Rattle.input_volume_controller.specs.Reply.{done, recommendationSays};
-ghost use Rattle.input_volume_controller.specs.Calls.{recommendation, initialise, captureSwitch, Does, AnalyzedOf};
+ghost use Rattle.input_volume_controller.specs.Calls.{recommendation, initialise, captureSwitch, Does, AnalyzedOf, AnalyzedEachOf, AnalyzedSetOf};
 ghost use Rattle.input_volume_controller.specs.ChannelMetrics.{channelMetrics};
 pub use crate::making::default_predictor_config;
 pub use crate::volume_control::VolumeControl;
 use crate::volume_control::fresh_control;
+pub use crate::volume_set::VolumeSet;
+pub use crate::volume_set::equal_volumes;
+pub use crate::volume_set::lent_volumes;
 use clipping_predictor::ClippingPredictor;
 use clipping_predictor::create_clipping_predictor;
 use clipping_predictor::frame_fits;
@@ -21,7 +24,6 @@ use clipping_predictor_level_buffer::Metrics;
 use clipping_predictor_level_buffer::Stored;
 use mono_input_volume_controller::config::Config;
 use mono_input_volume_controller::speech_level::SpeechLevel;
-use numbers::natural::Natural;
 use numbers::refusal::Outcome;
 use numbers::refusal::Refusal;
 
@@ -31,6 +33,7 @@ mod frame;
 mod making;
 pub mod plain;
 mod volume_control;
+mod volume_set;
 
 // The volume that a frame applied, as long as no recommendation has answered it.
 pub enum Applied {
@@ -131,7 +134,7 @@ impl InputVolumeController {
         c
     }
 
-    // A frame of all channels, one after another, each of `samples_per_channel` samples. Tests causes 8 and 9, in that order.
+    // A frame of all channels, one after another, each of `samples_per_channel` samples, with one volume for all. Tests causes 8 and 9, in that order.
     pub fn analyze_input_audio(
         self,
         applied_input_volume: i32,
@@ -141,13 +144,49 @@ impl InputVolumeController {
         requires { ⌜ Good self ⌝ }
         ensures { λ r. ⌜ AnalyzedOf self «applied_input_volume» «samples_per_channel» (now (frame .entry)) r ⌝ }
     {
-        let given = numbers::natural::within(0, 255, applied_input_volume);
-        let Natural::Number(volume) = given else {
+        let channels = self.control.channels.count;
+        self.analyze_volumes(
+            equal_volumes(applied_input_volume, channels),
+            samples_per_channel,
+            frame,
+        )
+    }
+
+    // The same with a volume for each channel, in their order. Tests causes 20, 8 and 9, in that order.
+    pub fn analyze_input_audio_each(
+        self,
+        volumes: &[i32],
+        samples_per_channel: usize,
+        frame: &[f32],
+    ) -> Analyzed
+        requires { ⌜ Good self ⌝ }
+        ensures { λ r. ⌜ AnalyzedEachOf self (now (volumes .entry)) «samples_per_channel» (now (frame .entry)) r ⌝ }
+    {
+        self.analyze_volumes(lent_volumes(volumes), samples_per_channel, frame)
+    }
+
+    // The same with volumes that are taken apart. Both forms come here.
+    pub fn analyze_volumes(
+        self,
+        set: VolumeSet,
+        samples_per_channel: usize,
+        frame: &[f32],
+    ) -> Analyzed
+        requires { ⌜ Good self ⌝ }
+        ensures { λ r. ⌜ AnalyzedSetOf self set «samples_per_channel» (now (frame .entry)) r ⌝ }
+    {
+        if set.count != self.control.channels.count {
+            return Analyzed {
+                controller: self,
+                answer: Analysis::Refused(Refusal::VolumeCount),
+            };
+        }
+        if !set.inside {
             return Analyzed {
                 controller: self,
                 answer: Analysis::Refused(Refusal::InputVolume),
             };
-        };
+        }
         if !frame_fits(
             self.control.channels.count as u8,
             samples_per_channel,
@@ -160,7 +199,8 @@ impl InputVolumeController {
         }
         let control = self.control;
         let predictor = self.predictor;
-        let applied = control.set_applied_input_volume(volume as u8);
+        let levels = set.levels;
+        let applied = control.set_applied_input_volumes(levels);
         frame::accepted(applied, predictor, samples_per_channel, frame)
     }
 

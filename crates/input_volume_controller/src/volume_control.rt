@@ -6,14 +6,18 @@ ghost use Rattle.input_volume_controller.specs.declared.Applied.the-vari
 ghost use Rattle.mono_input_volume_controller.specs.Config.{Good as GoodSettings};
 ghost use Rattle.mono_input_volume_controller.specs.SpeechLevel.{GoodTargets, rmsErrorOf};
 ghost use Rattle.input_volume_controller.specs.Controller.{freshControl};
-ghost use Rattle.input_volume_controller.specs.Control.{withApplied, controlOf, Good, Becomes, eachChannel};
-ghost use Rattle.input_volume_controller.specs.ControlCalls.{raisedFor, aggregated, withAppliedInputVolume, lowerChannels, oneFrameMore, processChannels};
+ghost use Rattle.input_volume_controller.specs.Channels.{channelsOf, Good as GoodChannels};
+ghost use Rattle.input_volume_controller.specs.VolumeSet.{levelsOf};
+ghost use Rattle.input_volume_controller.specs.Control.{withChannels, withApplied, controlOf, Good, Becomes, eachChannel};
+ghost use Rattle.input_volume_controller.specs.ControlCalls.{raisedFor, aggregated, withAppliedInputVolumes, lowerChannels, oneFrameMore, processChannels};
 ghost use Rattle.input_volume_controller.specs.Reply.{done, recommendationSays};
 ghost use Rattle.input_volume_controller.specs.Calls.{recommendation, initialise, captureSwitch, ControlDoes};
 use crate::Applied;
 use crate::Recommendation;
 use crate::channels::ChannelCall;
 use crate::channels::Channels;
+use crate::volume_set::lowest;
+use clipping_predictor::MAX_CHANNELS;
 use mono_input_volume_controller::config::Settings;
 use mono_input_volume_controller::speech_level::RmsError;
 use mono_input_volume_controller::speech_level::SpeechError;
@@ -131,14 +135,12 @@ impl VolumeControl {
         c
     }
 
-    // Every channel gets a call; then the volume is taken while one volume is pending, and another is left so. The struct is made once: this is done for every frame.
-    fn called(self, call: ChannelCall, pending: Applied, left: Applied) -> VolumeControl
-        requires { ⌜ Good self ⌝ }
-        ensures { λ r. ⌜ Becomes (withApplied left (aggregated (withApplied pending (eachChannel call (controlOf self))))) r ⌝ }
+    // The channels are as a call has left them; the volume is taken while one volume is pending, and another is left so. The struct is made once: this is done for every frame.
+    fn with_channels(self, channels: Channels, pending: Applied, left: Applied) -> VolumeControl
+        requires { ⌜ Good self × GoodChannels channels ⌝ }
+        ensures { λ r. ⌜ Becomes (withApplied left (aggregated (withApplied pending (withChannels (channelsOf channels) (controlOf self))))) r ⌝ }
     {
         let settings = self.settings;
-        let before = self.channels;
-        let channels = before.each(call);
         let lowest = channels.aggregate();
         VolumeControl {
             settings,
@@ -151,14 +153,17 @@ impl VolumeControl {
         }
     }
 
-    pub fn set_applied_input_volume(self, input_volume: u8) -> VolumeControl
+    // Each channel takes its own volume, and the lowest is pending from now on.
+    pub fn set_applied_input_volumes(self, levels: [u8; MAX_CHANNELS]) -> VolumeControl
         requires { ⌜ Good self ⌝ }
-        ensures { λ r. ⌜ Becomes (withAppliedInputVolume «input_volume» (controlOf self)) r ⌝ }
+        ensures { λ r. ⌜ Becomes (withAppliedInputVolumes (levelsOf levels (self .channels .count)) (controlOf self)) r ⌝ }
     {
-        self.called(
-            ChannelCall::StreamAnalogLevel(input_volume),
-            Applied::Volume(input_volume),
-            Applied::Volume(input_volume),
+        let channels = self.channels;
+        let applied = lowest(levels, channels.count);
+        self.with_channels(
+            channels.given(levels),
+            Applied::Volume(applied),
+            Applied::Volume(applied),
         )
     }
 
@@ -193,8 +198,9 @@ impl VolumeControl {
             self.settings.max_target,
         );
         let applied = self.applied;
-        self.called(
-            ChannelCall::Process(error, speech_probability),
+        let channels = self.channels;
+        self.with_channels(
+            channels.each(ChannelCall::Process(error, speech_probability)),
             applied,
             Applied::Nothing,
         )

@@ -17,6 +17,7 @@ pub enum Refusal {
     FrameLine,
     PredictorCapacity,
     PredictorLevels,
+    VolumeCount,
 }
 
 // What a call answers that has nothing to say but that.
@@ -43,5 +44,6 @@ pub fn number(cause: Refusal) -> u32
         Refusal::FrameLine => 12,
         Refusal::PredictorCapacity => 14,
         Refusal::PredictorLevels => 15,
+        Refusal::VolumeCount => 20,
     }
 }

@@ -1,10 +1,14 @@
 // The lines of the controller: made, frames, recommendations, initialises, capture switches, and what it holds. Each call's answer has the controller's volume behind it, or all of
 // its state.
+ghost use mathlib.Core.Path.{_≡_};
+ghost use Prim.Native.Nat.{_≤_};
+ghost use lib.ListN.{length};
 ghost use Rattle.input_volume_controller.specs.Controller.{Good};
 use crate::predictor;
 use crate::print;
 use crate::state;
 use crate::text;
+use input_volume_controller::Analyzed;
 use input_volume_controller::Created;
 use input_volume_controller::InputVolumeController;
 use mono_input_volume_controller::config::Config;
@@ -79,7 +83,20 @@ fn samples(s: &[u8], field: usize, n: usize, channels: usize) -> usize {
     n / channels
 }
 
-// A frame, whose floats are in a field behind its volume. A near one has an `n` behind its answer.
+// What a frame handed back is written; a near one has an `n` behind its answer.
+fn told(done: Analyzed, full: bool) -> InputVolumeController
+    requires { ⌜ Good (done .controller) ⌝ }
+    ensures { λ r. ⌜ Good r ⌝ }
+{
+    let next = done.controller;
+    let answer = done.answer;
+    print::analysis(answer);
+    state::print_after(next, full);
+    print::mark(answer);
+    next
+}
+
+// A frame, whose floats are in a field behind its volume.
 fn framed(c: InputVolumeController, s: &[u8], field: usize, full: bool) -> InputVolumeController
     requires { ⌜ Good c ⌝ }
     ensures { λ r. ⌜ Good r ⌝ }
@@ -87,13 +104,52 @@ fn framed(c: InputVolumeController, s: &[u8], field: usize, full: bool) -> Input
     let mut space = [0.0f32; 3840];
     let n = text::floats(s, field, &mut space);
     let each = samples(s, field, n, c.control.channels.count);
-    let done = c.analyze_input_audio(text::number(s, 0), each, &space[..n]);
-    let next = done.controller;
-    let answer = done.answer;
-    print::analysis(answer);
-    state::print_after(next, full);
-    print::mark(answer);
-    next
+    told(
+        c.analyze_input_audio(text::number(s, 0), each, &space[..n]),
+        full,
+    )
+}
+
+// So many volumes are read: a set of more is refused as one of 16 is.
+fn held(given: usize) -> usize
+    ensures { λ r. ⌜ r ≤ 16 ⌝ }
+{
+    if given > 16 {
+        return 16;
+    }
+    given
+}
+
+// The volumes of a set, which start in field 2.
+fn volumes(s: &[u8], count: usize) -> [i32; 16]
+    requires { ⌜ count ≤ 16 ⌝ }
+    ensures { λ r. ⌜ length r ≡ 16 ⌝ }
+{
+    let mut out = [0i32; 16];
+    for i in 0..count {
+        let volume = text::number(s, i + 2);
+        out[i] = volume;
+    }
+    out
+}
+
+// A frame with a set of volumes: samples, how many volumes, the volumes, floats. Without fields it is no frame.
+fn framed_each(c: InputVolumeController, s: &[u8], full: bool) -> InputVolumeController
+    requires { ⌜ Good c ⌝ }
+    ensures { λ r. ⌜ Good r ⌝ }
+{
+    if text::is_alone(s) {
+        return c;
+    }
+    let given = text::natural(s, 1);
+    let count = held(given);
+    let set = volumes(s, count);
+    let mut space = [0.0f32; 3840];
+    let n = text::floats(s, given + 2, &mut space);
+    told(
+        c.analyze_input_audio_each(&set[..count], text::natural(s, 0), &space[..n]),
+        full,
+    )
 }
 
 fn speech_level(s: &[u8]) -> SpeechLevel {
@@ -142,6 +198,7 @@ pub fn answer(letter: u8, c: InputVolumeController, s: &[u8], full: bool) -> Inp
         b'K' => made(c, with_predictor(s), full),
         b'A' => framed(c, s, 1, full),
         b'B' => framed(c, s, 2, full),
+        b'V' => framed_each(c, s, full),
         b'R' => recommended(c, text::float(s, 0), speech_level(s), full),
         b'I' => accepted(c.initialize(), full),
         b'C' => accepted(

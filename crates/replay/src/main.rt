@@ -14,6 +14,7 @@
 //     K the same, then mode window reference delay threshold margin   a controller with a predictor of any mode: made
 //     A volume floats   B volume samples floats   a frame; a frame that says how many samples a channel has
 //     R probability level   I   C switch   D   a recommendation; initialise; the capture switch; all records
+//     V samples n volumes floats        a frame with a set of n volumes; with n = 0 the floats follow the 0 and a blank
 //     V                                 from here on, all of the controller's state after each of its calls
 //     # name                            what the line before shows; no answer
 //
@@ -45,7 +46,7 @@ fn main() {
         let end = line.end;
         let s = &space[start..end];
         let letter = print::asked(s);
-        full = numbers::truth::either(full, letter == b'V');
+        full = numbers::truth::either(full, values::asks_state(letter, s));
         values::answer(letter, s);
         ring = ring::answer(letter, ring, s);
         predictor = predictor::answer(letter, predictor, s);

@@ -11,6 +11,11 @@ pub fn letter(s: &[u8]) -> u8 {
     s[0]
 }
 
+// Whether a line has no fields.
+pub fn is_alone(s: &[u8]) -> bool {
+    s.len() < 2
+}
+
 // 1 for a blank, and 0 for every other byte.
 fn blank(c: u8) -> usize
     ensures { λ r. ⌜ r ≤ 1 ⌝ }
@@ -87,7 +92,9 @@ fn digits(s: &[u8], at: usize, base: u64) -> u64
 }
 
 // A decimal field without a sign.
-pub fn natural(s: &[u8], field: usize) -> usize {
+pub fn natural(s: &[u8], field: usize) -> usize
+    ensures { λ r. ⌜ r < 2 ^ 45 ⌝ }
+{
     digits(s, place(s, field), 10) as usize
 }
 

@@ -46,13 +46,24 @@ fn of_float(letter: u8, x: f32) {
     }
 }
 
+// Whether a line asks that from here on all of the controller's state be written. With fields it is a frame.
+pub fn asks_state(letter: u8, s: &[u8]) -> bool {
+    numbers::truth::both(letter == b'V', text::is_alone(s))
+}
+
+fn shown(letter: u8, s: &[u8]) {
+    if asks_state(letter, s) {
+        print::ok();
+    }
+}
+
 // The answer to a line, by its first letter. Some are answered elsewhere, a name has none, and 0 is the letter of an empty line.
 pub fn answer(letter: u8, s: &[u8]) {
     match letter {
         b'S' => volume_step(s),
         b'Q' => speech_error(text::float(s, 0), text::number(s, 1), text::number(s, 2)),
         b'w' | b'a' | b'd' | b'h' | b'L' => of_float(letter, text::float(s, 0)),
-        b'V' => print::ok(),
+        b'V' => shown(letter, s),
         b'G' | b'g' | b'z' | b'm' | b'P' | b'F' | b'X' | b'E' => print::text(b""),
         b'N' | b'K' | b'A' | b'B' | b'R' | b'I' | b'C' | b'D' | b'#' | 0 => print::text(b""),
         _ => print::text(b"unknown"),

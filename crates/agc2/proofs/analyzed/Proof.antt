@@ -1,9 +1,8 @@
 -- `analyzed` meets its contract. Assumes nothing.
-use mathlib.Core.Path.{subst}
-use lib.IntN.{ℤ}
-use mir.Syntax.{w32}
-use mir.ValLaws.{toZ-ofZ}
-use Rattle.input_volume_controller.specs.Calls.{AnalyzedOf}
+use mathlib.Core.Path.{sym, subst}
+use Rattle.input_volume_controller.specs.declared.InputVolumeController.{InputVolumeController}
+use Rattle.input_volume_controller.proofs.Whole.{of-set}
+use Rattle.agc2.specs.Given.{Gives}
 use Rattle.agc2.proofs.Handed.{in-order, framed}
 use borrow.Author.Needs.{needs}
 use Rattle.agc2.proofs.analyzed.Statement.{statement}
@@ -12,8 +11,11 @@ use Rattle.agc2.proofs.analyzed.Tie as tie
 whole-requires : tie.Need-whole-requires
 whole-requires c κs = search needs
 
-analyze-input-audio-requires : tie.Need-analyze-input-audio-requires
-analyze-input-audio-requires c κs = in-order (c .whole .ensures) (c .before .before .pre)
+set-for-requires : tie.Need-set-for-requires
+set-for-requires c κs = search needs
+
+analyze-volumes-requires : tie.Need-analyze-volumes-requires
+analyze-volumes-requires c κs = let w = c .before in in-order (w .whole .ensures) (w .before .before .pre)
 
 frame-numbers-requires : tie.Need-frame-numbers-requires
 frame-numbers-requires c κs = search needs
@@ -22,13 +24,16 @@ beside-requires : tie.Need-beside-requires
 beside-requires c κs = search needs
 
 returns : tie.Need-returns
-returns c =
+returns c volumes gives =
     let n = c .before in
     let a = n .before .before in
-    let s = a .before .before .before in
-    framed (a .analyze-input-audio .result) (a .before .whole .ensures) (n .frame-numbers .ensures) (c .beside .ensures)
-    (subst (λ (v : ℤ). AnalyzedOf (a .before .whole .result) v (s .args .samples-per-channel) (s .args .samples .now) (a .analyze-input-audio .result))
-    (toZ-ofZ w32 (s .args .applied-input-volume) (s .fits .applied-input-volume)) (a .analyze-input-audio .ensures))
+    let t = a .before in
+    let w = t .before in
+    let s = w .before .before in
+    let whole = w .whole .result in
+    let counted = subst (λ (x : InputVolumeController). Gives (x .control .channels .count) volumes (s .args .given)) (sym (w .whole .ensures)) gives in
+    framed (a .analyze-volumes .result) (w .whole .ensures) (n .frame-numbers .ensures) (c .beside .ensures)
+    (of-set whole (in-order (w .whole .ensures) (s .pre)) volumes (t .set-for .result) (t .set-for .ensures volumes counted) (s .args .samples-per-channel) (s .args .samples .now) (a .analyze-volumes .ensures))
 
 pub analyzed-spec : {M : Type 1} → statement M
-analyzed-spec = tie.close (tie.spec whole-requires analyze-input-audio-requires frame-numbers-requires beside-requires returns)
+analyzed-spec = tie.close (tie.spec whole-requires set-for-requires analyze-volumes-requires frame-numbers-requires beside-requires returns)

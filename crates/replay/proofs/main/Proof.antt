@@ -49,6 +49,9 @@ part-s-end c = search needs
 asked-requires : tie.Need-asked-requires Inv-loop μ-loop
 asked-requires c κs = search needs
 
+asks-state-requires : tie.Need-asks-state-requires Inv-loop μ-loop
+asks-state-requires c κs = search needs
+
 either-requires : tie.Need-either-requires Inv-loop μ-loop
 either-requires c κs = search needs
 
@@ -62,19 +65,19 @@ answer-requires-3 : tie.Need-answer-requires-3 Inv-loop μ-loop
 answer-requires-3 c κs = search needs
 
 answer-requires-4 : tie.Need-answer-requires-4 Inv-loop μ-loop
-answer-requires-4 c κs = c .before .before .before .before .before .before .before .before .before .before .before .before .before .loop .inv .4
+answer-requires-4 c κs = c .before .before .before .before .before .before .before .before .before .before .before .before .before .before .loop .inv .4
 
 line-feed-requires : tie.Need-line-feed-requires Inv-loop μ-loop
 line-feed-requires c κs = search needs
 
 add-turn : tie.Need-add-turn Inv-loop μ-loop
-add-turn c = omega (arith, c .before .before .before .before .before .before .before .before .before .before .before .before .before .before .loop-test .taken)
+add-turn c = omega (arith, c .before .before .before .before .before .before .before .before .before .before .before .before .before .before .before .loop-test .taken)
 
 loop-less : tie.Need-loop-less Inv-loop μ-loop
-loop-less c = omega (arith, c .before .before .before .before .before .before .before .before .before .before .before .before .before .before .loop-test .taken)
+loop-less c = omega (arith, c .before .before .before .before .before .before .before .before .before .before .before .before .before .before .before .loop-test .taken)
 
 loop-again : tie.Need-loop-again Inv-loop μ-loop
-loop-again c = let n = c .before .before .before .before .before .before .before .before .before .before .before in (omega (arith, n .before .next .ensures, n .space2 .given), omega (arith, n .space2 .given), c .before .before .before .answer2 .ensures, c .before .before .answer3 .ensures, c .before .answer4 .ensures)
+loop-again c = let n = c .before .before .before .before .before .before .before .before .before .before .before .before in (omega (arith, n .before .next .ensures, n .space2 .given), omega (arith, n .space2 .given), c .before .before .before .answer2 .ensures, c .before .before .answer3 .ensures, c .before .answer4 .ensures)
 
 returns : tie.Need-returns Inv-loop μ-loop
 returns c = search needs
@@ -99,6 +102,7 @@ main-spec =
     part-s-start
     part-s-end
     asked-requires
+    asks-state-requires
     either-requires
     answer-requires
     answer-requires-2

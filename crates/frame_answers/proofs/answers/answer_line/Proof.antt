@@ -46,7 +46,7 @@ answer-frame-requires : tie.Need-answer-frame-requires
 answer-frame-requires c κs = search needs
 
 returns-2 : tie.Need-returns-2
-returns-2 c = c .answer-frame .ensures _ (makes-calls _ _ _ _ _ _ (frame-is (c .before .before .before)))
+returns-2 c = c .answer-frame .ensures _ (makes-calls _ _ _ _ _ _ _ (frame-is (c .before .before .before)))
 
 pub answer-line-spec : {M : Type 1} → statement M
 answer-line-spec =

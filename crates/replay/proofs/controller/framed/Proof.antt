@@ -26,14 +26,8 @@ slice-aggregate-analyze-input-audio c = let f = c .before .before .before .befor
 analyze-input-audio-requires : tie.Need-analyze-input-audio-requires
 analyze-input-audio-requires c κs = search needs
 
-analysis-requires : tie.Need-analysis-requires
-analysis-requires c κs = search needs
-
-print-after-requires : tie.Need-print-after-requires
-print-after-requires c κs = search needs
-
-mark-requires : tie.Need-mark-requires
-mark-requires c κs = search needs
+told-requires : tie.Need-told-requires
+told-requires c κs = search needs
 
 returns : tie.Need-returns
 returns c = search needs
@@ -49,7 +43,5 @@ framed-spec =
     array-share-prefix-space
     slice-aggregate-analyze-input-audio
     analyze-input-audio-requires
-    analysis-requires
-    print-after-requires
-    mark-requires
+    told-requires
     returns)

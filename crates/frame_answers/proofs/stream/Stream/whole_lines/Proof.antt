@@ -187,7 +187,7 @@ loop-again-2 c =
     let n = sought m in (
       m .before .samples2 .given,
       goes-on _ _ _ _ _ _ _ _ (so-far n) _ (found (end m)) (n .before .loop-test .taken) _
-          (ends-within (stream n) (so-far n .becomes .good) (start n .pre .1) _ _ (a .answer-frame .ensures _ (makes-calls _ _ _ _ _ _ (frame-is r))))
+          (ends-within (stream n) (so-far n .becomes .good) (start n .pre .1) _ _ (a .answer-frame .ensures _ (makes-calls _ _ _ _ _ _ _ (frame-is r))))
           _ _ (c .before .before .put-reply2 .ensures),
     )
 

@@ -12,7 +12,7 @@ use Rattle.input_volume_controller.proofs.channels.Channels.each.Statem
 use Rattle.input_volume_controller.proofs.channels.Channels.each.Tie as tie
 
 abbrev Inv-loop : tie.InvT-loop
-Inv-loop call count c₀ i₀ c i = (i ≤ count) × (c .count ≡ c₀ .count) × Replaced noChannel (CalledAt call) i (c₀ .items) (c .items)
+Inv-loop call count c₀ i₀ c i = (i ≤ count) × (c .count ≡ c₀ .count) × Replaced noChannel (CalledAt (λ _. call)) i (c₀ .items) (c .items)
 
 abbrev μ-loop : tie.MeasureT-loop
 μ-loop call count c₀ i₀ c i = count - i
@@ -28,7 +28,7 @@ good-channel : (c : tie.In-loop Inv-loop μ-loop) → Good (getD (c .before .bef
 good-channel c = c .before .before .pre .each (c .before .loop .i) (omega arith)
 
 loop-holds : tie.Need-loop-holds Inv-loop μ-loop
-loop-holds c = (omega arith, refl, replaced-none noChannel (CalledAt (c .args .call)) (c .args .self .items))
+loop-holds c = (omega arith, refl, replaced-none noChannel (CalledAt (λ _. c .args .call)) (c .args .self .items))
 
 mul-m : tie.Need-mul-m Inv-loop μ-loop
 mul-m c = omega (arith, below c)
@@ -57,14 +57,14 @@ loop-again c =
     let s = c .before .before .before .before in (
       omega arith,
       l .inv .1,
-      replaced-more noChannel (CalledAt (s .args .call)) (s .args .self .items) (l .i) (l .c .items) (c .call-one .result) (l .inv .2) (omega (arith, below (c .before .before), s .pre .places)) (c .call-one .ensures),
+      replaced-more noChannel (CalledAt (λ _. s .args .call)) (s .args .self .items) (l .i) (l .c .items) (c .call-one .result) (l .inv .2) (omega (arith, below (c .before .before), s .pre .places)) (c .call-one .ensures),
     )
 
 returns : tie.Need-returns Inv-loop μ-loop
 returns c =
     let l = c .before .loop in
     let s = c .before .before in
-    all-called (s .args .call) (s .args .self) (l .c) (s .pre) (l .inv .1) (subst (λ (n : ℕ). Replaced noChannel (CalledAt (s .args .call)) n (s .args .self .items) (l .c .items)) (omega arith) (l .inv .2))
+    all-called (s .args .call) (s .args .self) (l .c) (s .pre) (l .inv .1) (subst (λ (n : ℕ). Replaced noChannel (CalledAt (λ _. s .args .call)) n (s .args .self .items) (l .c .items)) (omega arith) (l .inv .2))
 
 pub each-spec : {M : Type 1} → statement M
 each-spec =

@@ -1,11 +1,13 @@
 -- `VolumeControl::process_channels` meets its contract. Assumes nothing.
 use mathlib.Core.Path.{_≡_, ap, _∙_}
+use mathlib.Core.List.{List}
 use Rattle.numbers.proofs.Signs.{read, again}
+use Rattle.mono_input_volume_controller.specs.declared.mono.MonoInputVolumeController.{MonoInputVolumeController}
 use Rattle.mono_input_volume_controller.specs.declared.speech_level.RmsError.{RmsError}
 use Rattle.input_volume_controller.specs.declared.Applied.the-variants.{Nothing}
 use Rattle.input_volume_controller.specs.declared.channels.ChannelCall.the-variants.{Process}
 use Rattle.mono_input_volume_controller.specs.SpeechLevel.{rmsErrorOf}
-use Rattle.input_volume_controller.specs.Control.{controlOf, eachChannel, withApplied}
+use Rattle.input_volume_controller.specs.Control.{controlOf, eachChannel, withChannels, withApplied}
 use Rattle.input_volume_controller.specs.ControlCalls.{processChannels, aggregated}
 use Rattle.input_volume_controller.proofs.Volumes.{target-small}
 use borrow.Author.Needs.{needs}
@@ -22,17 +24,26 @@ high c = let t = c .pre .settings .targets in again _ (target-small _ (t .max-lo
 speech-error-requires : tie.Need-speech-error-requires
 speech-error-requires c κs = let s = c .before .before in rw (low s, high s) (s .pre .settings .targets)
 
-called-requires : tie.Need-called-requires
-called-requires c κs = search needs
+each-requires : tie.Need-each-requires
+each-requires c κs = search needs
+
+with-channels-requires : tie.Need-with-channels-requires
+with-channels-requires c κs = (search needs, c .each .ensures .good)
 
 returns : tie.Need-returns
 unfolding processChannels aggregated controlOf
 returns c =
     let g = c .before in
-    let s = g .before .before .before in
-    let e = c .called .ensures in
-    let error = g .speech-error .ensures ∙ (λ i. rmsErrorOf (s .args .speech-level) (low s i) (high s i)) in
-    record { good = e .good; is = e .is ∙ ap (λ (x : RmsError). withApplied Nothing (aggregated (eachChannel (Process x (s .args .speech-probability)) (controlOf (s .args .self))))) error }
+    let h = g .before .before in
+    let s = h .before .before .before in
+    let e = c .with-channels .ensures in
+    let error = h .speech-error .ensures ∙ (λ i. rmsErrorOf (s .args .speech-level) (low s i) (high s i)) in
+    record {
+      good = e .good;
+      is =
+          e .is ∙ ap (λ (l : List MonoInputVolumeController). withApplied Nothing (aggregated (withChannels l (controlOf (s .args .self))))) (g .each .ensures .is)
+          ∙ ap (λ (x : RmsError). withApplied Nothing (aggregated (eachChannel (Process x (s .args .speech-probability)) (controlOf (s .args .self))))) error;
+    }
 
 pub process-channels-spec : {M : Type 1} → statement M
-process-channels-spec = tie.close (tie.spec speech-error-requires called-requires returns)
+process-channels-spec = tie.close (tie.spec speech-error-requires each-requires with-channels-requires returns)

