@@ -17,7 +17,7 @@
  * must be one that agc2_new or agc2_new_with_predictor accepted and that nobody else wrote to. A controller has no pointer in it and may be copied and moved; two threads must not use one at once.
  * The proofs take floats to work as they do by default: rounded to nearest, with no subnormal number flushed to zero.
  *
- * The stack that a call needs, as measured with clang and gcc at -O0 and -O2: 22.1 KB for a frame, 14.2 KB for a making, agc2_stored_record and agc2_compute_partial_metrics, 1.9 KB for any other
+ * The stack that a call needs, as measured with clang and gcc at -O0 and -O2: 22.7 KB for a frame, 14.2 KB for a making, agc2_stored_record and agc2_compute_partial_metrics, 1.9 KB for any other
  * (bindings/c/stack.c); where memcpy is bound late, the first call needs 3 KB more. */
 #ifndef AGC2_H
 #define AGC2_H

@@ -108,7 +108,7 @@ static void sound(void) {
 
 int main(void) {
     static const char *const names[CALLS] = {"agc2_new", "agc2_new_with_predictor", "a frame", "a frame with a set", "a recommendation", "initialise", "the capture switch", "agc2_stored_record", "agc2_compute_partial_metrics"};
-    static const long bounds[CALLS] = {14200, 14200, 22100, 22100, 1900, 1900, 1900, 14200, 14200};
+    static const long bounds[CALLS] = {14200, 14200, 22700, 22700, 1900, 1900, 1900, 14200, 14200};
     long seen[CALLS] = {0};
     stack = aligned_alloc(4096, SIZE);
     srand(7);

@@ -22,7 +22,7 @@
 //! one, so no safe code can break that. The proofs take floats to work as they do by default, and as Rust does: rounded to nearest, with no
 //! subnormal number flushed to zero.
 //!
-//! The stack that a call needs, as measured: 22 KB for a frame, up to 21 KB for [`InputVolumeController::stored_record`] and
+//! The stack that a call needs, as measured: 23 KB for a frame, up to 21 KB for [`InputVolumeController::stored_record`] and
 //! [`InputVolumeController::compute_partial_metrics`] and up to 35 KB for a making that goes into a box (all three in a debug build), 3 KB for any other.
 #![warn(missing_docs)]
 
