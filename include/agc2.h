@@ -31,8 +31,11 @@ extern "C" {
 
 enum { AGC2_MAX_CHANNELS = 8, AGC2_MAX_SAMPLES_PER_CHANNEL = 480 };
 
-/* The refusals of these calls: agc2_new has 1 to 6, agc2_new_with_predictor 7, 14 and 15 besides, agc2_analyze_input_audio 8 and 9, agc2_analyze_input_audio_each 20 besides,
- * agc2_compute_partial_metrics 11. */
+/* What a frame through the word spotter's entry has at most. */
+enum { AGC2_SPOTTER_MAX_CHANNELS = 2, AGC2_SPOTTER_MAX_SAMPLES_PER_CHANNEL = 160 };
+
+/* The refusals of these calls: agc2_new has 1 to 6, agc2_new_with_predictor 7, 14 and 15 besides, agc2_analyze_input_audio 8 and 9, agc2_analyze_input_audio_each 20 besides, the spotter's two 18
+ * besides, agc2_compute_partial_metrics 11. */
 enum {
     AGC2_ACCEPTED = 0,
     AGC2_CHANNEL_COUNT = 1,
@@ -47,6 +50,7 @@ enum {
     AGC2_RING_RANGE = 11,
     AGC2_PREDICTOR_CAPACITY = 14,
     AGC2_PREDICTOR_LEVELS = 15,
+    AGC2_FRAME_LIMITS = 18,
     AGC2_VOLUME_COUNT = 20
 };
 
@@ -153,6 +157,8 @@ agc2_control_state agc2_initialize_by_value(agc2_control_state control);
 agc2_control_state agc2_handle_capture_output_used_change_by_value(agc2_control_state control, uint32_t capture_output_used);
 void agc2_analyze_input_audio_into(agc2_controller *controller, int32_t applied_input_volume, size_t samples_per_channel, const float *samples, size_t count);
 void agc2_analyze_input_audio_each_into(agc2_controller *controller, const int32_t *volumes, size_t volume_count, size_t samples_per_channel, const float *samples, size_t count);
+void agc2_spotter_analyze_input_audio_into(agc2_controller *controller, int32_t applied_input_volume, size_t samples_per_channel, const float *samples, size_t count);
+void agc2_spotter_analyze_input_audio_each_into(agc2_controller *controller, const int32_t *volumes, size_t volume_count, size_t samples_per_channel, const float *samples, size_t count);
 void agc2_recommend_input_volume_into(agc2_control *control, float speech_probability, uint32_t has_speech_level, float speech_level_dbfs);
 int32_t agc2_recommended_input_volume_by_value(agc2_control_state control);
 agc2_record agc2_stored_record_by_value(agc2_controller controller, size_t channel, size_t i);
@@ -202,6 +208,19 @@ static inline uint32_t agc2_analyze_input_audio(agc2_controller *controller, int
  * agc2_analyze_input_audio, byte for byte. Refuses with 20 if volume_count is not the channel count, then with 8 if any volume is not 0 to 255, then with 9. */
 static inline uint32_t agc2_analyze_input_audio_each(agc2_controller *controller, const int32_t *volumes, size_t volume_count, size_t samples_per_channel, const float *samples, size_t count) {
     agc2_analyze_input_audio_each_into(controller, volumes, volume_count, samples_per_channel, samples, count);
+    return controller->refusal;
+}
+
+/* The word spotter's entry: a frame of at most 2 channels and 160 samples per channel. A larger one is refused with 18, after every refusal of agc2_analyze_input_audio (8 and 9), and changes nothing;
+ * any other frame is agc2_analyze_input_audio, byte for byte. The controller may be any, and both entries may be used on it. */
+static inline uint32_t agc2_spotter_analyze_input_audio(agc2_controller *controller, int32_t applied_input_volume, size_t samples_per_channel, const float *samples, size_t count) {
+    agc2_spotter_analyze_input_audio_into(controller, applied_input_volume, samples_per_channel, samples, count);
+    return controller->refusal;
+}
+
+/* The same where each microphone has a volume of its own, as agc2_analyze_input_audio_each. Refuses with 20, 8 and 9 as that does, then with 18. */
+static inline uint32_t agc2_spotter_analyze_input_audio_each(agc2_controller *controller, const int32_t *volumes, size_t volume_count, size_t samples_per_channel, const float *samples, size_t count) {
+    agc2_spotter_analyze_input_audio_each_into(controller, volumes, volume_count, samples_per_channel, samples, count);
     return controller->refusal;
 }
 
@@ -267,6 +286,8 @@ static inline const char *agc2_words(uint32_t refusal) {
         return "predictor delay + reference above 64";
     case AGC2_PREDICTOR_LEVELS:
         return "predictor threshold or margin not -200,000 to 200,000 thousandths of a dB";
+    case AGC2_FRAME_LIMITS:
+        return "more channels or samples per channel than the spotter's 2 and 160";
     case AGC2_VOLUME_COUNT:
         return "volumes not as many as the channels";
     default:

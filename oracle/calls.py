@@ -5,8 +5,9 @@ usage: calls.py ORACLE REPLAY [COUNT [SEED]]
 
 ORACLE is the driver over the unchanged Rust (`probe` of rust/), REPLAY the program of crates/replay. Both get the same commands: controllers of one to eight
 channels with settings from all of the table's domain, frames of 1 to 480 samples a channel with infinite and not-a-number samples among them, recommendations,
-initialises and capture switches. Half of the frames go to the port as a set of equal volumes (`V`, document 02 (xiv)), where the Rust gets its one volume. Frames, sets and settings that are
-refused go to the port alone: the refusal must be the table's, a set's 20 before 8 before 9, and the state must stay.
+initialises and capture switches. Half of the frames go to the port as a set of equal volumes (`V`, document 02 (xiv)), where the Rust gets its one volume; of the others, half of those that have at
+most 2 channels and 160 samples each go through the word spotter's entry (`W`, document 02 (viii)), where the Rust gets the same frame. Frames, sets and settings that are refused go to the port alone:
+the refusal must be the table's, a set's 20 before 8 before 9, the spotter's 8 before 9 before 18, and the state must stay.
 After each call the two states must be equal: the volume, the pending volume, the capture switch, the count since clipping, the controlling channel, every figure
 of every channel, and each ring's count and newest record; all records of all rings from time to time. The Rust's records have no count of clipped samples: the port's
 are left out there, and must be those of the words (counts.py). A marked call may differ; the controller is then left, since
@@ -103,17 +104,51 @@ def refused_set(rnd, channels):
     return " ".join(map(str, ["V", size, count, *volumes, "00000000" * lent])), cause
 
 
-def with_sets(rnd, calls):
-    """The calls with what goes to the Rust beside each, or None: half of the frames as sets of equal volumes, and sets that are refused between them."""
+SPOTTER_CHANNELS, SPOTTER_SAMPLES = 2, 160  # the most that the word spotter's entry takes
+
+
+def fits_spotter(command, channels):
+    """Whether a frame `A` lies within the limits of the spotter's entry."""
+    return channels <= SPOTTER_CHANNELS and len(command.split(" ")[2]) // 8 // channels <= SPOTTER_SAMPLES
+
+
+def as_spotters(command, channels):
+    """A frame `A` through the spotter's entry."""
+    _, volume, floats = command.split(" ")
+    return f"W {volume} {len(floats) // 8 // channels} {floats}"
+
+
+def over_limits(rnd, channels):
+    """A frame through the spotter's entry that nothing is wrong with but its size: the port's answer is 18."""
+    size = rnd.choice([161, 161, 162, 200, 480] + [1, 2, 160] * 3 * (channels > SPOTTER_CHANNELS))
+    return f"W {rnd.randint(0, 255)} {size} {f'{bits(rnd.uniform(-33000, 33000)):08x}' * (size * channels)}"
+
+
+def refused_spotters(rnd, channels):
+    """A frame through the spotter's entry that is refused, and the number: whatever else is wrong with it, a volume that is none comes first, then the samples, then the limits."""
+    cause = rnd.choice([8, 9, 18, 18])
+    if cause == 18:
+        return over_limits(rnd, channels), cause
+    volume = rnd.choice([-1, 256, 300, 2147483647, -2147483648]) if cause == 8 else rnd.randint(0, 255)
+    size, lent = rnd.choice([(0, 0), (481, channels), (1, channels + 1), (161, channels), (161, 161 * channels + 1), (480, 161 * channels), (-1, 0)])
+    if cause == 8 and rnd.random() < 0.5:
+        size, lent = rnd.choice([(1, channels), (161, 161 * channels)])
+    return f"W {volume} {size} {'00000000' * lent}", cause
+
+
+def with_forms(rnd, calls):
+    """The calls with what goes to the Rust beside each, or None: half of the frames as sets of equal volumes, some through the spotter's entry, and refused ones of both forms between them."""
     channels = 1
     for command, cause in calls:
         if cause is None and command[0] == "N":
             channels = int(command.split(" ")[1])
         if rnd.random() < 0.03 and command[0] != "N":
-            yield (*refused_set(rnd, channels), None)
+            yield (*rnd.choice([refused_set, refused_spotters])(rnd, channels), None)
         if command[0] == "A" and rnd.random() < 0.5:
             volume = int(command.split(" ")[1])
             yield as_set(command, channels, [volume] * channels), cause, command
+        elif command[0] == "A" and fits_spotter(command, channels) and rnd.random() < 0.5:
+            yield as_spotters(command, channels), cause, command
         else:
             yield command, cause, command if cause is None else None
 
@@ -181,13 +216,13 @@ def main():
     oracle, replay = sys.argv[1:3]
     wanted = int(sys.argv[3]) if len(sys.argv) > 3 else 2_000_000
     seed = int(sys.argv[4]) if len(sys.argv) > 4 else 1
-    rnd, sets = random.Random(seed), random.Random(seed + 1)
-    counts = dict(calls=0, controllers=0, frames=0, sets=0, recommendations=0, none=0, initialises=0, switches=0, dumps=0, refused=0, refused_sets=0, statistics_panics=0, marked=0, marked_apart=0, left=0, differ=0)
-    names = dict(A="frames", V="frames", R="recommendations", I="initialises", C="switches", N="controllers")
+    rnd, forms = random.Random(seed), random.Random(seed + 1)
+    counts = dict(calls=0, controllers=0, frames=0, sets=0, spotters=0, recommendations=0, none=0, initialises=0, switches=0, dumps=0, refused=0, refused_sets=0, refused_spotters=0, over_limits=0, statistics_panics=0, marked=0, marked_apart=0, left=0, differ=0)
+    names = dict(A="frames", V="frames", W="frames", R="recommendations", I="initialises", C="switches", N="controllers")
     while counts["calls"] < wanted:
         commands = []
         while len(commands) < PIECE:
-            commands += with_sets(sets, session(rnd))
+            commands += with_forms(forms, session(rnd))
         theirs = iter(run(oracle, [rust for _, _, rust in commands if rust is not None]))
         ours = run(replay, ["V"] + [command for command, _, _ in commands])[1:]
         assert len(ours) == len(commands), (len(ours), len(commands))
@@ -205,10 +240,13 @@ def main():
             if cause is not None:
                 counts["refused"] += 1
                 counts["refused_sets"] += kind == "V"
+                counts["refused_spotters"] += kind == "W"
+                counts["over_limits"] += cause == 18
                 fine = port == f"! {cause}" if kind == "N" else port_state(normal(port)) == f"! {cause} {before}"
             else:
                 counts[names.get(kind, "dumps")] += 1
                 counts["sets"] += kind == "V"
+                counts["spotters"] += kind == "W"
                 near = port.endswith(" n")
                 state = port_state(normal(port[:-2] if near else port))
                 if rust.startswith("P"):

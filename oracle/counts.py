@@ -135,7 +135,7 @@ class Counts:
             return
         if kind in "NK":
             self.controller = Rings(int(fields[0]), fields[6] == "1")
-        elif kind in "ABV" and fields:
+        elif kind in "ABVW" and fields:
             self.controller.enter(fields[-1])
         elif kind in "IC":
             self.controller.used = kind == "I" or fields[0] == "1"

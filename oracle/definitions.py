@@ -32,10 +32,10 @@ CONTROLLING = "(aggregateOf (c .channels) .channel) c"
 EDITS = [
     # ---- document 01, "Shams shut out, and by what"
     ("all refused", "RefusedCalls", [
-        (IVC + "Calls.antt", "Frame.{unlessRefused, analyzeInputAudio}", "Frame.{unlessRefused, analyzeInputAudio, refusedWith}"),
+        (IVC + "Calls.antt", "Frame.{testedAs, unlessRefused, analyzeInputAudio}", "Frame.{testedAs, unlessRefused, analyzeInputAudio, refusedWith}"),
         (IVC + "Calls.antt", "use Rattle.numbers.specs.declared.refusal.Refusal.{Refusal}\n",
          "use Rattle.numbers.specs.declared.refusal.Refusal.{Refusal}\nuse Rattle.numbers.specs.declared.refusal.Refusal.the-variants.{FrameSize}\n"),
-        (IVC + "Calls.antt", "step c (frame volumes samples lent) = analyzeInputAudio volumes samples lent c", "step c (frame volumes samples lent) = refusedWith FrameSize c")]),
+        (IVC + "Calls.antt", "step c (frame most volumes samples lent) = analyzeInputAudio most volumes samples lent c", "step c (frame most volumes samples lent) = refusedWith FrameSize c")]),
     ("one fixed volume, of the volume step", "StarredCases", [
         (GAIN + "VolumeUpdate.antt", "reached true volume = Volume (pos volume)", "reached true volume = Volume (pos 116)")]),
     # the highest volume is in every bound; so is an echo that is raised to the minimum
@@ -121,7 +121,7 @@ EDITS = [
          "eachCalled call channels = take 1 (map (called call) channels) ++ (take 1 (drop 1 channels) ++ drop 2 (map (called call) channels))")]),
     ("the estimate is asked with the controller's volume before the frame", "DependsOnOne", [
         (IVC + "Frame.antt", "analyzeInputAudio = frameBy predictedBy",
-         "analyzeInputAudio volumes samples lent c = frameBy (λ (a : Asked). predictedBy (record { level = c .control .volume; step = a .step; least = a .least; most = a .most })) volumes samples lent c")]),
+         "analyzeInputAudio limits volumes samples lent c = frameBy (λ (a : Asked). predictedBy (record { level = c .control .volume; step = a .step; least = a .least; most = a .most })) limits volumes samples lent c")]),
     ("the controller's volume is not taken with a frame's volumes, so that the estimate reads the old one", "DependsOnOne", [
         (IVC + "ControlCalls.antt", APPLIED, APPLIED.replace("aggregated (withApplied (Volume (lowestOf volumes)) (withChannels (eachGiven volumes (c .channels)) c))", "withApplied (Volume (lowestOf volumes)) (withChannels (eachGiven volumes (c .channels)) c)"))]),
     ("a recommendation with capture off repeats the controller's volume", "DependsOnOne", [
@@ -144,8 +144,8 @@ EDITS = [
         (IVC + "ControlCalls.antt", "aggregated (withSince 0 (eachChannel (Clipping step) c))", "aggregated (eachChannel (Clipping step) c)")]),
     ("the minimum is not applied", "Bounds", [
         (IVC + "ControlCalls.antt", "raisedFor (Volume (suc n)) least volume = max volume least", "raisedFor (Volume (suc n)) least volume = volume")]),
-    ("a frame that does not fit applies its volumes", "RefusedCalls", [
-        (IVC + "Frame.antt", "(numberSet volumes) false samples lent c = refusedWith FrameSize c", "(numberSet volumes) false samples lent c = refusedWith FrameSize (withVolumesApplied volumes c)")]),
+    ("a refused frame applies its volumes", "RefusedCalls", [
+        (IVC + "Frame.antt", "(Refused cause) volumes samples lent c = refusedWith cause c", "(Refused cause) volumes samples lent c = refusedWith cause (withVolumesApplied volumes c)")]),
     ("a recommendation with capture on leaves the volume pending", "NoneExactly", [
         (IVC + "Recommendation.antt", "control = withApplied Nothing (processChannels probability level (c .control))", "control = processChannels probability level (c .control)")]),
     ("the last channel controls", "EqualChannels", [
@@ -233,12 +233,33 @@ EDITS = [
          "volume = raisedFor (c .applied) (c .settings .least) (m .volume); wait = m .wait; frames = m .frames; speech = m .speech; first = m .first; probability = m .probability; ratio = m .ratio }) "
          "(c .channels)) .channel) c")]),
     ("8 is tested before 20", "RefusedCalls", [
-        (IVC + "Frame.antt", "unlessRefusedBy false volumes fits samples lent c = refusedWith VolumeCount c", "unlessRefusedBy counted outsideSet fits samples lent c = refusedWith InputVolume c"),
-        (IVC + "Frame.antt", "unlessRefusedBy true outsideSet fits samples lent c = refusedWith InputVolume c", "unlessRefusedBy false (numberSet volumes) fits samples lent c = refusedWith VolumeCount c")]),
+        (IVC + "Frame.antt", "testedAs false inside fits within = Refused VolumeCount", "testedAs counted false fits within = Refused InputVolume"),
+        (IVC + "Frame.antt", "testedAs true false fits within = Refused InputVolume", "testedAs false true fits within = Refused VolumeCount")]),
     ("the volumes before a bad one are taken", "RefusedCalls", [
         (IVC + "Volumes.antt", "andVolume (Number volume) outsideSet = outsideSet", "andVolume (Number volume) outsideSet = numberSet (volume ∷ [])")]),
     ("the first volume of a set is the first channel's, and the others are nobody's", "OneVolume", [
         (IVC + "Channels.antt", "called (StreamAnalogLevel volume) m ∷ eachGiven volumes ms", "called (StreamAnalogLevel volume) m ∷ ms")]),
+    # ---- document 02 (viii)
+    ("18 is tested before 9", "ShortFrames", [
+        (IVC + "Frame.antt", "testedAs true true false within = Refused FrameSize", "testedAs true true fits false = Refused FrameLimits"),
+        (IVC + "Frame.antt", "testedAs true true true false = Refused FrameLimits", "testedAs true true false true = Refused FrameSize")]),
+    ("160 samples are too many for the spotter's entry", "ShortFrames", [
+        (IVC + "Limits.antt", "use lib.Dec.{leb}", "use lib.Dec.{leb, ltb}"),
+        (IVC + "Limits.antt", "&& leb samples (most .samples)", "&& ltb samples (most .samples)")]),
+    ("three channels are let through the spotter's entry", "ShortFrames", [
+        (IVC + "Limits.antt", "spotterLimits = record { channels = 2;", "spotterLimits = record { channels = 3;")]),
+    ("one limit of two is enough", "ShortFrames", [
+        (IVC + "Limits.antt", "use mathlib.Core.Bool.{Bool, _&&_}", "use mathlib.Core.Bool.{Bool, _||_}"),
+        (IVC + "Limits.antt", "leb channels (most .channels) && leb", "leb channels (most .channels) || leb")]),
+    ("everybody gets the spotter's limits", "ShortFrames", [
+        (IVC + "Limits.antt", "plainLimits = record { channels = maxChannels; samples = maxSamplesPerChannel }", "plainLimits = record { channels = 2; samples = 160 }")]),
+    ("more than the spotter's limits is cause 9", "ShortFrames", [
+        ("crates/numbers/specs/Refusal.antt", "numberOf FrameLimits = 18", "numberOf FrameLimits = 9")]),
+    ("a frame that is refused with 18 applies its volumes", "ShortFrames", [
+        (IVC + "Frame.antt", "-- a refusal hands the state back\n",
+         "abbrev pub stateIf : Bool → Controller → Controller → Controller\nstateIf true taken c = taken\nstateIf false taken c = c\n\n-- a refusal hands the state back\n"),
+        (IVC + "Frame.antt", "(Refused cause) volumes samples lent c = refusedWith cause c",
+         "(Refused cause) volumes samples lent c = refusedWith cause (stateIf (eqb (numberOf cause) 18) (withVolumesApplied volumes c) c)")]),
 ]
 
 

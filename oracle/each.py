@@ -5,22 +5,24 @@ usage: each.py ORACLE REPLAY [CONTROLLERS [SEED]]
 
 ORACLE is the driver over the unchanged Rust (`probe` of rust/), REPLAY the program of crates/replay. The port gets frames with sets of positive volumes, mostly uneven; each controller of the Rust gets its
 channel's own volume and samples, with the same settings, recommendations and initialises. All frames are quiet, so that nothing is clipped or predicted, and capture stays on: then no channel hears of
-another but by the lowest volume. After each call every channel of the port, its figures and its ring, must be the one channel of its Rust controller; a recommendation must be the lowest of theirs,
+another but by the lowest volume. Some frames have one volume for all channels, and go through the word spotter's entry where they fit it (document 02 (viii)). After each call every channel of the port, its figures and its ring, must be the one channel of its Rust controller; a recommendation must be the lowest of theirs,
 and the controller's volume the lowest of theirs. With positive volumes raising the lowest to min_input_volume is taking the lowest of the raised. Prints what was compared; exits with 1 if something differs.
 """
 import random
 import sys
 
-from calls import as_set, normal, run, settings
+from calls import as_set, as_spotters, fits_spotter, normal, run, settings
 from counts import without
 from two_pasts import WAIT, Base, quiet, recommendation
 
 
 def volumes(rnd, before):
-    """The next set: as before, one changed a little or much, or all anew."""
+    """The next set: as before, all equal, one changed a little or much, or all anew."""
     kind = rnd.random()
-    if kind < 0.6:
+    if kind < 0.5:
         return before
+    if kind < 0.6:
+        return [rnd.randint(1, 255)] * len(before)
     if kind < 0.9:
         channel, changed = rnd.randrange(len(before)), list(before)
         changed[channel] = rnd.choice([rnd.randint(1, 255), max(1, min(255, before[channel] + rnd.randint(-30, 30)))])
@@ -42,10 +44,11 @@ def session(rnd):
         kind = rnd.random()
         if kind < 0.5:
             given = volumes(rnd, given)
-            call = quiet(rnd, channels, 1, Base())
+            call = quiet(rnd, channels, given[0], Base())
             floats = call.split(" ")[2]
             size = len(floats) // channels
-            port.append(as_set(call, channels, given))
+            alike = len(set(given)) == 1
+            port.append(as_spotters(call, channels) if alike and fits_spotter(call, channels) else as_set(call, channels, given))
             for channel, commands in enumerate(rust):
                 commands.append(f"A {given[channel]} {floats[channel * size:(channel + 1) * size]}")
         else:
@@ -73,7 +76,7 @@ def main():
     oracle, replay = sys.argv[1:3]
     wanted = int(sys.argv[3]) if len(sys.argv) > 3 else 500
     rnd = random.Random(int(sys.argv[4]) if len(sys.argv) > 4 else 1)
-    counts = dict(controllers=0, calls=0, sets=0, uneven=0, recommendations=0, raised=0, differ=0)
+    counts = dict(controllers=0, calls=0, sets=0, uneven=0, spotters=0, recommendations=0, raised=0, differ=0)
     for _ in range(wanted):
         commands, alone = session(rnd)
         counts["controllers"] += 1
@@ -86,6 +89,7 @@ def main():
             counts["calls"] += 1
             counts["sets"] += kind[0] == "V"
             counts["uneven"] += kind[0] == "V" and len(set(kind[3:-1])) > 1
+            counts["spotters"] += kind[0] == "W"
             counts["recommendations"] += kind[0] == "R" and reply.isdigit()
             counts["raised"] += kind[0] == "R" and reply == str(least) and min(int(m.split(",")[5]) for m, _ in channels) < least
             fine = reply == lowest([r for r, _, _ in each]) and volume == min(v for _, v, _ in each) and channels == [c for _, _, (c,) in each]

@@ -5,7 +5,7 @@ usage: one_channel.py PROGRAM [SETTINGS [SEED [WITHOUT]]]
 
 PROGRAM is the driver over the unchanged Rust (`probe` of rust/) or the program of crates/replay. For each of so many settings, of one to eight channels, 80 controllers get short pasts of their own,
 drawn from few calls, so that many come to the same place; with `replay` refused frames are among them, and half of the frames are sets of equal volumes, where every set with volumes that differ is
-refused (document 02 (xiv)). After every call all channels must be equal and channel 0 must control. Two controllers that
+refused (document 02 (xiv)), and of the others half go through the word spotter's entry where they fit it (document 02 (viii)). After every call all channels must be equal and channel 0 must control. Two controllers that
 agree in a channel's state, all records of the rings, the count since clipping and the pending volume then get the same calls, and must reply alike, whatever their volumes. Prints what was
 compared, and in how many pairs the volumes differed; exits with 1 if a channel differed or a pair was told apart. WITHOUT is a letter of PLACE, a part that the two need not agree in: pairs that are
 told apart are then to be expected, and none is a fault.
@@ -15,7 +15,7 @@ import os
 import random
 import sys
 
-from calls import as_set, normal, port_state, run, settings
+from calls import as_set, as_spotters, fits_spotter, normal, over_limits, port_state, run, settings
 from two_pasts import calls
 
 PASTS = 80
@@ -27,10 +27,17 @@ REFUSED = ["B 256 1 00000000", "B 5 0 ", "B -1 0 "]
 
 
 def refused(rnd, channels):
-    """A frame that is refused: with one volume, or with a set whose volumes differ, too many, with a bad one among them, or without samples."""
+    """A frame that is refused: with one volume, or with a set whose volumes differ, too many, with a bad one among them, or without samples, or over the limits of the spotter's entry."""
     volumes = rnd.sample(range(256), channels)
     sets = [[1, channels + 1, *volumes, 7], [1, channels, *volumes[1:], 256], [0, channels, *volumes]]
-    return rnd.choice(REFUSED + [" ".join(map(str, ["V", *fields, "00000000" * channels])) for fields in sets])
+    return rnd.choice(REFUSED + [over_limits(rnd, channels)] + [" ".join(map(str, ["V", *fields, "00000000" * channels])) for fields in sets])
+
+
+def formed(rnd, channels, volume, call):
+    """A frame for the port, in one of its forms."""
+    if rnd.random() < 0.5:
+        return as_set(call, channels, [volume] * channels)
+    return as_spotters(call, channels) if fits_spotter(call, channels) and rnd.random() < 0.5 else call
 
 
 def past(rnd, channels, port):
@@ -42,7 +49,7 @@ def past(rnd, channels, port):
             heard = rnd.choices(SAMPLES, k=channels) if rnd.random() < 0.3 else [rnd.choice(SAMPLES)] * channels
             volume = rnd.choice(VOLUMES)
             call = f"A {volume} " + "".join(heard)
-            out.append(as_set(call, channels, [volume] * channels) if port and rnd.random() < 0.5 else call)
+            out.append(formed(rnd, channels, volume, call) if port else call)
         elif port and kind < 0.55:
             out.append(refused(rnd, channels))
         else:

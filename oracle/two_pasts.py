@@ -8,13 +8,13 @@ with recommendations and initialises between them; an initialise; a quiet frame 
 apart are to be expected. The port's records have their counts of clipped samples, which are compared too (document 02 (xi)). WORDS are for the program of crates/replay alone. With `modes` each pair
 has a predictor of its own, of any mode, on or off, and the lead-in is that of document 02 (iv). With `sets` most frames, in the pasts, in the lead-in and after it, have a volume for each channel
 (document 02 (xiv)), and the closing quiet frame has positive volumes that differ. With `zero` as well one of these is 0, where there are several channels, and pairs that are told apart are to be
-expected. Prints how many calls after the lead-in were compared, and how many pairs were told apart, with `modes` of each mode; exits with 1 if there is one that is not to be expected.
+expected. With `spotter` half of the frames that fit it go through the word spotter's entry (document 02 (viii)), and frames that do not, which it refuses, come between the calls everywhere. Prints how many calls after the lead-in were compared, and how many pairs were told apart, with `modes` of each mode; exits with 1 if there is one that is not to be expected.
 """
 import random
 import struct
 import sys
 
-from calls import as_set, bits, frame, normal, run, settings
+from calls import as_set, as_spotters, bits, fits_spotter, frame, normal, over_limits, run, settings
 
 WAIT = 5  # the place of clipped_wait_frames in the command N
 
@@ -107,6 +107,16 @@ def closing(rnd, channels, command, zero):
     return as_set(command, channels, volumes)
 
 
+def narrowed(rnd, channels, commands):
+    """Half of the frames that fit the word spotter's entry through it, and frames that it refuses between the calls."""
+    out = []
+    for c in commands:
+        if rnd.random() < 0.1:
+            out.append(over_limits(rnd, channels))
+        out.append(as_spotters(c, channels) if c[0] == "A" and fits_spotter(c, channels) and rnd.random() < 0.5 else c)
+    return out
+
+
 def pair(rnd, fewer, predictor, words):
     """The commands of a pair, and how many of the last of each half are compared."""
     channels, made = settings(rnd)
@@ -120,6 +130,8 @@ def pair(rnd, fewer, predictor, words):
         *body, last, heard = before
         before = spread(rnd, channels, body) + [closing(rnd, channels, last, "zero" in words), heard]
         after, pasts = spread(rnd, channels, after), [spread(rnd, channels, past) for past in pasts]
+    if "spotter" in words:
+        before, after, *pasts = [narrowed(rnd, channels, part) for part in (before, after, *pasts)]
     return [[making] + past + before + after for past in pasts], len(after)
 
 

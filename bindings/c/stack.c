@@ -36,6 +36,14 @@ __attribute__((noinline)) static void framed_each(void) {
     sink = agc2_analyze_input_audio_each(&controller, volumes, (size_t)channels, samples_per_channel, samples, (size_t)channels * AGC2_MAX_SAMPLES_PER_CHANNEL);
 }
 
+__attribute__((noinline)) static void framed_short(void) {
+    sink = agc2_spotter_analyze_input_audio(&controller, volume, samples_per_channel / 3, samples, (size_t)channels * AGC2_SPOTTER_MAX_SAMPLES_PER_CHANNEL);
+}
+
+__attribute__((noinline)) static void framed_short_each(void) {
+    sink = agc2_spotter_analyze_input_audio_each(&controller, volumes, (size_t)channels, samples_per_channel / 3, samples, (size_t)channels * AGC2_SPOTTER_MAX_SAMPLES_PER_CHANNEL);
+}
+
 __attribute__((noinline)) static void recommend(void) { sink = agc2_recommend_input_volume(&controller, 1.0f, &level, &recommended); }
 
 __attribute__((noinline)) static void initialized(void) { agc2_initialize(&controller); }
@@ -76,7 +84,7 @@ static void most(long *seen, call f) {
 
 /* ---- random calls */
 
-enum { NEW, NEW_WITH, FRAME, FRAME_EACH, RECOMMEND, INITIALIZE, SWITCH, STORED, METRICS, CALLS };
+enum { NEW, NEW_WITH, FRAME, FRAME_EACH, SHORT, SHORT_EACH, RECOMMEND, INITIALIZE, SWITCH, STORED, METRICS, CALLS };
 
 static void settings(void) {
     channels = 1 + rand() % AGC2_MAX_CHANNELS;
@@ -107,8 +115,8 @@ static void sound(void) {
 }
 
 int main(void) {
-    static const char *const names[CALLS] = {"agc2_new", "agc2_new_with_predictor", "a frame", "a frame with a set", "a recommendation", "initialise", "the capture switch", "agc2_stored_record", "agc2_compute_partial_metrics"};
-    static const long bounds[CALLS] = {14200, 14200, 22700, 22700, 1900, 1900, 1900, 14200, 14200};
+    static const char *const names[CALLS] = {"agc2_new", "agc2_new_with_predictor", "a frame", "a frame with a set", "a frame of the spotter", "a frame of the spotter with a set", "a recommendation", "initialise", "the capture switch", "agc2_stored_record", "agc2_compute_partial_metrics"};
+    static const long bounds[CALLS] = {14200, 14200, 22700, 22700, 22700, 22700, 1900, 1900, 1900, 14200, 14200};
     long seen[CALLS] = {0};
     stack = aligned_alloc(4096, SIZE);
     srand(7);
@@ -120,6 +128,8 @@ int main(void) {
             sound();
             most(&seen[FRAME], framed);
             most(&seen[FRAME_EACH], framed_each);
+            most(&seen[SHORT], framed_short);
+            most(&seen[SHORT_EACH], framed_short_each);
             most(&seen[RECOMMEND], recommend);
         }
         most(&seen[INITIALIZE], initialized);

@@ -162,6 +162,50 @@ static uint32_t any_set(agc2_controller *c, size_t channels, size_t samples, con
     return agc2_analyze_input_audio_each(c, volumes, volume_count, samples, frame, count);
 }
 
+/* A frame through either entry, with one volume or with a set. */
+typedef struct any_frame {
+    size_t samples_per_channel, count;
+    const float *samples;
+    int each;
+    int32_t volumes[9];
+    size_t volume_count;
+} any_frame;
+
+static uint32_t through_plain(agc2_controller *c, const any_frame *f) {
+    return f->each ? agc2_analyze_input_audio_each(c, f->volumes, f->volume_count, f->samples_per_channel, f->samples, f->count)
+                   : agc2_analyze_input_audio(c, f->volumes[0], f->samples_per_channel, f->samples, f->count);
+}
+
+static uint32_t through_spotter(agc2_controller *c, const any_frame *f) {
+    return f->each ? agc2_spotter_analyze_input_audio_each(c, f->volumes, f->volume_count, f->samples_per_channel, f->samples, f->count)
+                   : agc2_spotter_analyze_input_audio(c, f->volumes[0], f->samples_per_channel, f->samples, f->count);
+}
+
+/* A frame for the spotter's entry; one in four is refused as the plain entry refuses, and of the others those of more than 160 samples. */
+static any_frame spotters_frame(size_t channels, const float *samples, uint32_t seed) {
+    any_frame f = {1 + below(&seed, 200), 0, samples, (int)below(&seed, 2), {0}, channels};
+    if (below(&seed, 4) == 0) {
+        f.samples_per_channel = 160 + below(&seed, 2);
+    }
+    f.count = channels * f.samples_per_channel;
+    int32_t volume = (int32_t)below(&seed, 256);
+    for (int i = 0; i < 9; i++) {
+        f.volumes[i] = f.each ? (int32_t)below(&seed, 256) : volume;
+    }
+    switch (below(&seed, 12)) {
+    case 0:
+        f.volume_count = channels - 1;
+        break;
+    case 1:
+        f.volumes[0] = below(&seed, 2) ? -1 : 256;
+        break;
+    case 2:
+        f.count++;
+        break;
+    }
+    return f;
+}
+
 /* One call of many kinds, the same for equal seeds. Its answer. */
 static uint32_t any_call(agc2_controller *c, int32_t channels, uint32_t seed) {
     static float frame[8 * 480];
@@ -172,7 +216,14 @@ static uint32_t any_call(agc2_controller *c, int32_t channels, uint32_t seed) {
     for (size_t i = 0; i < count; i++) {
         frame[i] = loud * ((float)below(&seed, 2001) / 1000.0f - 1.0f);
     }
-    switch (below(&seed, 20)) {
+    switch (below(&seed, 24)) {
+    case 20:
+    case 21:
+    case 22:
+    case 23: {
+        any_frame f = spotters_frame((size_t)channels, frame, seed);
+        return through_spotter(c, &f);
+    }
     case 16:
     case 17:
     case 18:
@@ -201,10 +252,10 @@ static uint32_t any_call(agc2_controller *c, int32_t channels, uint32_t seed) {
 }
 
 static int is_refused_frame(uint32_t answer) {
-    return answer == AGC2_INPUT_VOLUME || answer == AGC2_FRAME_SIZE || answer == AGC2_VOLUME_COUNT;
+    return answer == AGC2_INPUT_VOLUME || answer == AGC2_FRAME_SIZE || answer == AGC2_FRAME_LIMITS || answer == AGC2_VOLUME_COUNT;
 }
 
-/* A refused frame changes no byte of the state. The four words in front of it are its answer, 20, 8 or 9 and not near, and no volume, since no recommendation came after it. */
+/* A refused frame changes no byte of the state. The four words in front of it are its answer, 20, 8, 9 or 18 and not near, and no volume, since no recommendation came after it. */
 static void refused_frame_keeps_the_state(const agc2_controller *before, const agc2_controller *after) {
     CHECK(memcmp(&before->control.state, &after->control.state, sizeof before->control.state) == 0);
     CHECK(memcmp(&before->predictor, &after->predictor, sizeof before->predictor) == 0);
@@ -270,6 +321,91 @@ static void equal_volumes_are_one(void) {
             agc2_recommend_input_volume(&each, 0.9f, &level, &recommended);
         }
     }
+}
+
+/* ---- the word spotter's entry */
+
+/* A frame through the spotter's entry, and through the plain one on a copy. Refused there, or within the limits, it is the same in all bytes; else it is refused with 18, and no byte of the state changes. */
+static uint32_t through_both(agc2_controller *c, int32_t channels, const any_frame *f) {
+    static agc2_controller plain, before;
+    memcpy(&plain, c, sizeof plain);
+    memcpy(&before, c, sizeof before);
+    uint32_t taken = through_plain(&plain, f), answer = through_spotter(c, f);
+    if (taken != AGC2_ACCEPTED || (channels <= AGC2_SPOTTER_MAX_CHANNELS && f->samples_per_channel <= AGC2_SPOTTER_MAX_SAMPLES_PER_CHANNEL)) {
+        CHECK(answer == taken && memcmp(c, &plain, sizeof plain) == 0);
+    } else {
+        CHECK(answer == AGC2_FRAME_LIMITS);
+    }
+    if (answer != AGC2_ACCEPTED) {
+        refused_frame_keeps_the_state(&before, c);
+    }
+    return answer;
+}
+
+/* Through both entries, with capture on and off; each answer comes up. */
+static void spotter_is_plain_within_its_limits(void) {
+    static agc2_controller c;
+    static float samples[8 * 480];
+    uint32_t seed = 11, answers[21] = {0};
+    for (int32_t channels = 1; channels <= 8; channels++) {
+        agc2_config d = agc2_default_config();
+        d.clipped_wait_frames = channels;
+        CHECK(agc2_new(&c, channels, d) == 0);
+        for (uint32_t k = 0; k < 600; k++) {
+            float loud = below(&seed, 3) ? 29000.0f : 33000.0f, level = (float)below(&seed, 90) - 90.0f;
+            int32_t recommended;
+            for (size_t i = 0; i < 8 * 480; i++) {
+                samples[i] = below(&seed, 4) ? (float)below(&seed, 500) : loud;
+            }
+            if (k % 50 == 0) {
+                agc2_handle_capture_output_used_change(&c, k % 100 == 0);
+            }
+            any_frame f = spotters_frame((size_t)channels, samples, seed);
+            answers[through_both(&c, channels, &f)]++;
+            agc2_recommend_input_volume(&c, 0.9f, &level, &recommended);
+        }
+    }
+    CHECK(answers[AGC2_ACCEPTED] > 500 && answers[AGC2_FRAME_LIMITS] > 500);
+    CHECK(answers[AGC2_VOLUME_COUNT] > 100 && answers[AGC2_INPUT_VOLUME] > 100 && answers[AGC2_FRAME_SIZE] > 100);
+}
+
+/* At most 2 channels and 160 samples each. 20 comes before 8, 8 before 9, and 18 last, whatever else is wrong, with capture on and off. */
+static void spotter_refusals(void) {
+    static const float samples[3 * 480] = {0};
+    static const struct {
+        int32_t channels;
+        any_frame frame;
+        uint32_t refusal;
+    } cases[16] = {
+        {1, {160, 160, samples, 0, {200}, 1}, AGC2_ACCEPTED},
+        {2, {160, 320, samples, 0, {200}, 2}, AGC2_ACCEPTED},
+        {2, {160, 320, samples, 1, {200, 100}, 2}, AGC2_ACCEPTED},
+        {1, {161, 161, samples, 0, {200}, 1}, AGC2_FRAME_LIMITS},
+        {2, {161, 322, samples, 0, {200}, 2}, AGC2_FRAME_LIMITS},
+        {1, {480, 480, samples, 0, {200}, 1}, AGC2_FRAME_LIMITS},
+        {3, {1, 3, samples, 0, {200}, 3}, AGC2_FRAME_LIMITS},
+        {3, {480, 1440, samples, 0, {200}, 3}, AGC2_FRAME_LIMITS},
+        {2, {161, 322, samples, 1, {200, 100}, 2}, AGC2_FRAME_LIMITS},
+        {3, {1, 3, samples, 1, {200, 100, 50}, 3}, AGC2_FRAME_LIMITS},
+        {3, {161, 482, samples, 0, {200}, 3}, AGC2_FRAME_SIZE},
+        {1, {481, 481, samples, 0, {200}, 1}, AGC2_FRAME_SIZE},
+        {3, {161, 482, samples, 0, {256}, 3}, AGC2_INPUT_VOLUME},
+        {3, {161, 483, samples, 1, {200, 100, -1}, 3}, AGC2_INPUT_VOLUME},
+        {3, {161, 482, samples, 1, {200, 256, 50}, 2}, AGC2_VOLUME_COUNT},
+        {3, {161, 483, samples, 1, {200, 100, 50}, 4}, AGC2_VOLUME_COUNT},
+    };
+    for (int i = 0; i < 16; i++) {
+        for (uint32_t capture = 0; capture < 2; capture++) {
+            agc2_controller c;
+            int32_t volume = -1;
+            CHECK(agc2_new(&c, cases[i].channels, agc2_default_config()) == 0);
+            agc2_handle_capture_output_used_change(&c, capture);
+            CHECK(agc2_analyze_input_audio(&c, 90, 480, samples, (size_t)cases[i].channels * 480) == AGC2_ACCEPTED);
+            CHECK(through_both(&c, cases[i].channels, &cases[i].frame) == cases[i].refusal);
+            CHECK(agc2_recommend_input_volume(&c, 0.0f, NULL, &volume) == 1 && (volume == 90) == (cases[i].refusal != AGC2_ACCEPTED));
+        }
+    }
+    CHECK(strcmp(agc2_words(AGC2_FRAME_LIMITS), "more channels or samples per channel than the spotter's 2 and 160") == 0);
 }
 
 /* ---- the calls */
@@ -629,6 +765,8 @@ int main(void) {
     sizes_are_those_the_archive_writes();
     equal_histories_have_equal_bytes();
     equal_volumes_are_one();
+    spotter_is_plain_within_its_limits();
+    spotter_refusals();
     default_settings();
     the_example();
     marks();

@@ -3,6 +3,7 @@
 //! [`InputVolumeController`] has the names and the meaning of aec3-rs's. What differs: an `AudioBuffer` is one slice, channels one after another,
 //! the experimental target is left out of the settings, and what the original asserts is answered with a [`Refusal`], which leaves the controller
 //! as it was. A controller may have a clipping predictor of any of the three modes ([`InputVolumeController::with_predictor`]); the original's has one.
+//! A word spotter, which must not pass a large frame by accident, is handed a [`Spotter`] and not the controller.
 //!
 //! A frame is 10 ms of sound, at up to 48 kHz, as floats on the 16-bit scale, -32768 to 32767. Samples from -1.0 to 1.0 are all but silence on it
 //! and never clip.
@@ -29,11 +30,13 @@
 mod predictor;
 mod raw;
 mod refusal;
+mod spotter;
 
 use std::fmt;
 
 pub use predictor::{ClippingPredictorConfig, ClippingPredictorMode};
 pub use refusal::Refusal;
+pub use spotter::{Spotter, SPOTTER_MAX_CHANNELS, SPOTTER_MAX_SAMPLES_PER_CHANNEL};
 
 /// The most channels that a controller has.
 pub const MAX_CHANNELS: usize = 8;
@@ -187,8 +190,15 @@ impl InputVolumeController {
     /// ```
     pub fn analyze_input_audio_each(&mut self, volumes: &[i32], samples_per_channel: usize, samples: &[f32]) -> Result<Accepted, Refusal> {
         // SAFETY: the state is one that the library handed out, and the pointers and the lengths are the slices', which are not ours.
-        unsafe { raw::agc2_analyze_input_audio_each_into(&mut self.raw, volumes.as_ptr(), volumes.len(), samples_per_channel, samples.as_ptr(), samples.len()) };
+        unsafe {
+            raw::agc2_analyze_input_audio_each_into(&mut self.raw, volumes.as_ptr(), volumes.len(), samples_per_channel, samples.as_ptr(), samples.len())
+        };
         self.framed()
+    }
+
+    /// The same controller for a word spotter, with its narrow entries alone: frames of at most 2 channels and 160 samples per channel.
+    pub fn spotter(&mut self) -> Spotter<'_> {
+        Spotter::new(self)
     }
 
     /// What the last frame answered.

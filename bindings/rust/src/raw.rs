@@ -107,6 +107,21 @@ extern "C" {
         samples: *const f32,
         count: usize,
     );
+    pub fn agc2_spotter_analyze_input_audio_into(
+        controller: &mut Controller,
+        applied_input_volume: i32,
+        samples_per_channel: usize,
+        samples: *const f32,
+        count: usize,
+    );
+    pub fn agc2_spotter_analyze_input_audio_each_into(
+        controller: &mut Controller,
+        volumes: *const i32,
+        volume_count: usize,
+        samples_per_channel: usize,
+        samples: *const f32,
+        count: usize,
+    );
     pub fn agc2_recommend_input_volume_into(control: &mut Control, speech_probability: f32, has_speech_level: u32, speech_level_dbfs: f32);
     pub fn agc2_recommended_input_volume_by_value(control: ControlState) -> i32;
     pub fn agc2_stored_record_by_value(controller: Controller, channel: usize, i: usize) -> Record;

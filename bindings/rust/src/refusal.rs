@@ -30,6 +30,8 @@ pub enum Refusal {
     PredictorCapacity = 14,
     /// predictor threshold or margin not -200,000 to 200,000 thousandths of a dB
     PredictorLevels = 15,
+    /// more channels or samples per channel than the spotter's 2 and 160
+    FrameLimits = 18,
     /// volumes not as many as the channels
     VolumeCount = 20,
 }
@@ -56,6 +58,7 @@ impl Refusal {
             11 => Refusal::RingRange,
             14 => Refusal::PredictorCapacity,
             15 => Refusal::PredictorLevels,
+            18 => Refusal::FrameLimits,
             20 => Refusal::VolumeCount,
             other => unreachable!("libagc2.a answered {other}, which is no refusal of it"),
         })
@@ -77,6 +80,7 @@ impl fmt::Display for Refusal {
             Refusal::RingRange => "delay negative, item count below 1, or their sum above the ring's capacity",
             Refusal::PredictorCapacity => "predictor delay + reference above 64",
             Refusal::PredictorLevels => "predictor threshold or margin not -200,000 to 200,000 thousandths of a dB",
+            Refusal::FrameLimits => "more channels or samples per channel than the spotter's 2 and 160",
             Refusal::VolumeCount => "volumes not as many as the channels",
         })
     }

@@ -1,5 +1,8 @@
 //! Drives the bindings as a tablet would.
-use agc2::{Accepted, ClippingPredictorConfig, ClippingPredictorMode, Config, InputVolumeController, Level, Refusal, MAX_CHANNELS, MAX_SAMPLES_PER_CHANNEL};
+use agc2::{
+    Accepted, ClippingPredictorConfig, ClippingPredictorMode, Config, InputVolumeController, Level, Refusal, MAX_CHANNELS, MAX_SAMPLES_PER_CHANNEL,
+    SPOTTER_MAX_CHANNELS, SPOTTER_MAX_SAMPLES_PER_CHANNEL,
+};
 
 fn made(channels: i32) -> InputVolumeController {
     InputVolumeController::new(channels, Config::default()).unwrap()
@@ -89,8 +92,14 @@ fn the_default_predictor_is_the_originals() {
 #[test]
 fn each_mode_predicts_by_its_threshold() {
     let frames = |first: [u32; 4], second: [u32; 4], mode, clipping_threshold| {
-        let predictor =
-            ClippingPredictorConfig { mode, window_length: 1, reference_window_length: 1, reference_window_delay: 1, clipping_threshold, crest_factor_margin: 1500 };
+        let predictor = ClippingPredictorConfig {
+            mode,
+            window_length: 1,
+            reference_window_length: 1,
+            reference_window_delay: 1,
+            clipping_threshold,
+            crest_factor_margin: 1500,
+        };
         let config = Config { clipped_ratio_threshold: f32::INFINITY, clipped_wait_frames: 0, clipped_level_step: 5, ..Config::default() };
         let mut c = InputVolumeController::with_predictor(1, config, predictor).unwrap();
         for frame in [first, second] {
@@ -196,6 +205,71 @@ fn a_set_of_equal_volumes_is_the_one_volume() {
             assert_eq!(one.recommend_input_volume(0.9, Some(-40.0)), each.recommend_input_volume(0.9, Some(-40.0)));
             assert_eq!(one.stored_record(channels - 1, 0), each.stored_record(channels - 1, 0));
         }
+    }
+}
+
+/// Every record and the volume, and with them all that a frame could have changed here.
+fn seen(c: &InputVolumeController) -> (i32, Vec<Option<Level>>) {
+    (c.recommended_input_volume(), (0..30).map(|i| c.stored_record(i / 10, i % 10)).collect())
+}
+
+/// At most 2 channels and 160 samples each. 18 comes after 9, 9 after 8 and 8 after 20, whatever else is wrong, with capture on and off; the plain entry takes what only 18 refuses.
+#[test]
+fn a_frame_over_the_spotters_limits_changes_nothing() {
+    let frames: [(i32, &[i32], usize, usize, Option<Refusal>); 12] = [
+        (1, &[200], 160, 160, None),
+        (2, &[200, 100], 160, 320, None),
+        (1, &[200], 161, 161, Some(Refusal::FrameLimits)),
+        (2, &[200, 100], 161, 322, Some(Refusal::FrameLimits)),
+        (1, &[200], 480, 480, Some(Refusal::FrameLimits)),
+        (3, &[200, 100, 50], 1, 3, Some(Refusal::FrameLimits)),
+        (3, &[200, 100, 50], 161, 482, Some(Refusal::FrameSize)),
+        (1, &[200], 481, 481, Some(Refusal::FrameSize)),
+        (3, &[256, 100, 50], 161, 483, Some(Refusal::InputVolume)),
+        (3, &[-1, 100, 50], 161, 482, Some(Refusal::InputVolume)),
+        (3, &[256, 100], 161, 482, Some(Refusal::VolumeCount)),
+        (3, &[200, 100, 50, 50], 161, 483, Some(Refusal::VolumeCount)),
+    ];
+    let sound = [1000.0f32; 3 * MAX_SAMPLES_PER_CHANNEL];
+    for ((channels, volumes, samples, lent, refusal), capture) in frames.into_iter().flat_map(|f| [(f, true), (f, false)]) {
+        let mut c = made(channels);
+        c.handle_capture_output_used_change(capture);
+        c.analyze_input_audio(90, 480, &sound[..480 * channels as usize]).unwrap();
+        let (before, answer) = (seen(&c), refusal.map_or(Ok(Accepted { near: false }), Err));
+        assert_eq!(c.spotter().analyze_input_audio_each(volumes, samples, &sound[..lent]), answer, "{volumes:?}");
+        assert_eq!(seen(&c) == before, refusal.is_some());
+        assert_eq!(c.recommend_input_volume(0.0, None) == Some(90), refusal.is_some());
+        if refusal != Some(Refusal::VolumeCount) {
+            assert_eq!(made(channels).spotter().analyze_input_audio(volumes[0], samples, &sound[..lent]), answer);
+        }
+        if refusal == Some(Refusal::FrameLimits) {
+            assert_eq!(made(channels).analyze_input_audio(volumes[0], samples, &sound[..lent]), Ok(Accepted { near: false }));
+            assert_eq!(made(channels).analyze_input_audio_each(volumes, samples, &sound[..lent]), Ok(Accepted { near: false }));
+        }
+    }
+    assert_eq!(Refusal::FrameLimits.number(), 18);
+    assert_eq!(Refusal::FrameLimits.to_string(), "more channels or samples per channel than the spotter's 2 and 160");
+}
+
+#[test]
+fn a_spotters_frame_is_the_plain_one() {
+    for channels in 1..=SPOTTER_MAX_CHANNELS {
+        let (mut plain, mut narrow) = (made(channels as i32), made(channels as i32));
+        let mut spotter = narrow.spotter();
+        for k in 0..300 {
+            let (volume, sample) = (k * 37 % 257, [0.0, 29300.0, 32767.0][k as usize % 3]);
+            let samples = k as usize * 7 % (SPOTTER_MAX_SAMPLES_PER_CHANNEL + 1);
+            let frame = vec![sample; samples * channels];
+            if k % 2 == 0 {
+                assert_eq!(plain.analyze_input_audio(volume, samples, &frame), spotter.analyze_input_audio(volume, samples, &frame));
+            } else {
+                let volumes = vec![volume; channels];
+                assert_eq!(plain.analyze_input_audio_each(&volumes, samples, &frame), spotter.analyze_input_audio_each(&volumes, samples, &frame));
+            }
+            assert_eq!(plain.recommended_input_volume(), spotter.recommended_input_volume());
+            assert_eq!(plain.recommend_input_volume(0.9, Some(-40.0)), spotter.recommend_input_volume(0.9, Some(-40.0)));
+        }
+        assert_eq!(seen(&plain), seen(&narrow));
     }
 }
 

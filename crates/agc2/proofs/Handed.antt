@@ -5,8 +5,12 @@ use Prim.Native.Nat.{ℕ}
 use native.Mathlib.Omega.{arith}
 use lib.IntN.{ℤ}
 use lib.Ieee.{Float}
+use mir.Syntax.{w32}
+use mir.Val.{ofZ, toZ, SFits}
+use mir.ValLaws.{toZ-ofZ}
 use Rattle.numbers.specs.Said.{outcomeSays}
 use Rattle.numbers.specs.declared.refusal.Refusal.{Refusal}
+use Rattle.input_volume_controller.specs.declared.limits.Limits.{Limits}
 use Rattle.input_volume_controller.specs.declared.Analysis.{Analysis}
 use Rattle.input_volume_controller.specs.declared.Analysis.the-variants as Analysis
 use Rattle.input_volume_controller.specs.declared.Analyzed.{Analyzed}
@@ -28,7 +32,9 @@ use Rattle.agc2.specs.declared.answers.VolumeNumbers.{VolumeNumbers}
 use Rattle.agc2.specs.declared.answers.Agc2Controller.{Agc2Controller}
 use Rattle.agc2.specs.Whole.{wholeOf, besideOf}
 use Rattle.agc2.specs.Answers.{outcomeNumber, frameNumbers, volumeNumbers}
-use Rattle.agc2.specs.Calls.{CreatedAs, AnalyzedEachOf, RecommendedAs}
+use Rattle.agc2.specs.declared.given.GivenVolumes.{GivenVolumes}
+use Rattle.agc2.specs.Given.{GivesWithin, GivesAll}
+use Rattle.agc2.specs.Calls.{CreatedAs, AnalyzedEachOf, AnalyzedGivenOf, RecommendedAs}
 
 pub back : (n m : ℕ) (d : InputVolumeController) → wholeOf (besideOf n m d) ≡ d
 back n m d = λ i. together (control-again (d .control) i) (predictor-again (d .predictor) i)
@@ -67,11 +73,11 @@ refused-same : (a : Analysis) {n : ℕ} {X : Type 0} → analysisSays a ≡ refu
 refused-same (Analysis.Accepted near) e f = not-accepted e
 refused-same (Analysis.Refused cause) e f = f cause refl
 
-pub framed : {r : Agc2Controller} {s c : InputVolumeController} {volumes : List ℤ} {samples : ℕ} {lent : List Float} (a : Analyzed) {n : FrameNumbers} → c ≡ s → n ≡ frameNumbers (analysisSays (a .answer)) → r ≡ besideOf (n .refusal) (n .near) (a .controller)
-    → Calls.AnalyzedEachOf c volumes samples lent a → AnalyzedEachOf s volumes samples lent r
-framed {r} {s} {c} {volumes} {samples} {lent} a {n} w f e h =
-    subst (λ (x : InputVolumeController). AnalyzedEachOf x volumes samples lent r) w
-    (subst (λ (x : Agc2Controller). AnalyzedEachOf c volumes samples lent x) (sym e)
+pub framed : {r : Agc2Controller} {most : Limits} {s c : InputVolumeController} {volumes : List ℤ} {samples : ℕ} {lent : List Float} (a : Analyzed) {n : FrameNumbers} → c ≡ s → n ≡ frameNumbers (analysisSays (a .answer)) → r ≡ besideOf (n .refusal) (n .near) (a .controller)
+    → Calls.AnalyzedEachOf most c volumes samples lent a → AnalyzedEachOf most s volumes samples lent r
+framed {r} {most} {s} {c} {volumes} {samples} {lent} a {n} w f e h =
+    subst (λ (x : InputVolumeController). AnalyzedEachOf most x volumes samples lent r) w
+    (subst (λ (x : Agc2Controller). AnalyzedEachOf most c volumes samples lent x) (sym e)
     (record {
       typed = h .does .typed;
       refusal = ap (λ (x : FrameNumbers). x .refusal) (f ∙ ap frameNumbers (h .does .reply));
@@ -80,6 +86,17 @@ framed {r} {s} {c} {volumes} {samples} {lent} a {n} w f e h =
       becomes = becomes (n .refusal) (n .near) (a .controller) (h .does .good) (h .does .view);
       same = λ k t. back (n .refusal) (n .near) (a .controller) ∙ refused-same (a .answer) (h .does .reply ∙ t) (h .same);
     }))
+
+-- one volume, as the machine reads it back, at the limits that were made
+pub gives-all : {made most : Limits} {given : GivenVolumes} (volume : ℤ) → SFits w32 volume → made ≡ most → GivesAll made (toZ w32 (ofZ w32 volume)) given → GivesAll most volume given
+gives-all {made} {most} {given} volume fits e gives = subst (λ (limits : Limits). GivesAll limits volume given) e (subst (λ (v : ℤ). GivesAll made v given) (toZ-ofZ w32 volume fits) gives)
+
+-- through the entry that the volumes were given to
+pub given-at : {most : Limits} {volumes : ℕ → List ℤ} {given : GivenVolumes} {self : InputVolumeController} {samples : ℕ} {lent : List Float} {r : Agc2Controller} → GivesWithin most volumes given
+    → AnalyzedGivenOf self given samples lent r → AnalyzedEachOf most self (volumes (self .control .channels .count)) samples lent r
+given-at {most} {volumes} {given} {self} {samples} {lent} {r} w e =
+    let count = self .control .channels .count in
+    subst (λ (limits : Limits). AnalyzedEachOf limits self (volumes count) samples lent r) (w .within) (e (volumes count) (w .gives count))
 
 -- ---- a recommendation
 

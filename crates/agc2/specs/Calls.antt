@@ -8,6 +8,7 @@ use Rattle.numbers.specs.Said.{outcomeSays}
 use Rattle.clipping_predictor.specs.declared.settings.ClippingPredictorConfig.{ClippingPredictorConfig}
 use Rattle.mono_input_volume_controller.specs.declared.config.Config.{Config}
 use Rattle.mono_input_volume_controller.specs.declared.speech_level.SpeechLevel.{SpeechLevel}
+use Rattle.input_volume_controller.specs.declared.limits.Limits.{Limits}
 use Rattle.input_volume_controller.specs.declared.volume_control.VolumeControl.{VolumeControl}
 use Rattle.input_volume_controller.specs.declared.InputVolumeController.{InputVolumeController}
 use Rattle.input_volume_controller.specs.Plain.{wholeControl}
@@ -50,16 +51,16 @@ pub record FramedAs (self : InputVolumeController) (call : Call) (s : Stepped) (
   pub becomes : Becomes (s .state) (wholeOf r)
   pub same : (n : ℕ) → s .reply ≡ refused n → wholeOf r ≡ self
 
--- with a volume for each channel, and with one for all
-abbrev pub AnalyzedEachOf : InputVolumeController → List ℤ → ℕ → List Float → Agc2Controller → Type 0
-AnalyzedEachOf self volumes samples lent r = FramedAs self (frame volumes samples lent) (step (viewOf self) (frame volumes samples lent)) r
+-- through an entry with these limits, with a volume for each channel, and with one for all
+abbrev pub AnalyzedEachOf : Limits → InputVolumeController → List ℤ → ℕ → List Float → Agc2Controller → Type 0
+AnalyzedEachOf most self volumes samples lent r = FramedAs self (frame most volumes samples lent) (step (viewOf self) (frame most volumes samples lent)) r
 
-abbrev pub AnalyzedOf : InputVolumeController → ℤ → ℕ → List Float → Agc2Controller → Type 0
-AnalyzedOf self volume samples lent r = AnalyzedEachOf self (equalVolumes volume (self .control .channels .count)) samples lent r
+abbrev pub AnalyzedOf : Limits → InputVolumeController → ℤ → ℕ → List Float → Agc2Controller → Type 0
+AnalyzedOf most self volume samples lent r = AnalyzedEachOf most self (equalVolumes volume (self .control .channels .count)) samples lent r
 
--- with volumes that are not yet counted
+-- with volumes that are not yet counted, through the entry that they were given to
 abbrev pub AnalyzedGivenOf : InputVolumeController → GivenVolumes → ℕ → List Float → Agc2Controller → Type 0
-AnalyzedGivenOf self given samples lent r = (volumes : List ℤ) → Gives (self .control .channels .count) volumes given → AnalyzedEachOf self volumes samples lent r
+AnalyzedGivenOf self given samples lent r = (volumes : List ℤ) → Gives (self .control .channels .count) volumes given → AnalyzedEachOf (given .most) self volumes samples lent r
 
 -- a recommendation, whatever predictor stands beside the control
 pub record RecommendedAs (self : VolumeControl) (call : Call) (r : Agc2Control) : Type 0 where

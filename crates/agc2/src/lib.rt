@@ -10,6 +10,7 @@ ghost use Rattle.clipping_predictor_level_buffer.specs.Metrics.{metricsSays};
 ghost use Rattle.input_volume_controller.specs.Controller.{Good, viewOf};
 ghost use Rattle.input_volume_controller.specs.Control.{controlOf};
 ghost use Rattle.input_volume_controller.specs.Control.{Good as GoodControl};
+ghost use Rattle.input_volume_controller.specs.Limits.{plainLimits, spotterLimits};
 ghost use Rattle.input_volume_controller.specs.Plain.{wholeControl};
 ghost use Rattle.input_volume_controller.specs.Reply.{done};
 ghost use Rattle.input_volume_controller.specs.Calls.{initialise, captureSwitch, ControlDoes};
@@ -131,15 +132,16 @@ fn analyzed(
     ensures { λ r. ⌜ AnalyzedGivenOf (wholeOf before) given «samples_per_channel» (now (samples .entry)) r ⌝ }
 {
     let c = whole(before);
+    let most = given.most;
     let set = given::set_for(given, c.control.channels.count);
-    let analyzed = c.analyze_volumes(set, samples_per_channel, samples);
+    let analyzed = c.analyze_volumes(most, set, samples_per_channel, samples);
     let answer = analyzed.answer;
     let handed = analyzed.controller;
     let numbers = answers::frame_numbers(answer);
     beside(numbers.refusal, numbers.near, handed)
 }
 
-// The same in the controller's place. Both forms of a frame come here by the controller's address: each pass by value would copy its rings.
+// The same in the controller's place. Every exported frame comes here by the controller's address: each pass by value would copy its rings.
 fn analyzed_into(
     controller: &mut Agc2Controller,
     given: GivenVolumes,
@@ -161,7 +163,7 @@ pub extern "C" fn agc2_analyze_input_audio_into(
     samples: &[f32],
 )
     requires { ⌜ Good (wholeOf (now controller)) ⌝ }
-    ensures { λ _. ⌜ AnalyzedOf (wholeOf (now (controller .entry))) «applied_input_volume» «samples_per_channel» (now (samples .entry)) (now (controller .exit)) ⌝ }
+    ensures { λ _. ⌜ AnalyzedOf plainLimits (wholeOf (now (controller .entry))) «applied_input_volume» «samples_per_channel» (now (samples .entry)) (now (controller .exit)) ⌝ }
 {
     analyzed_into(
         controller,
@@ -180,11 +182,49 @@ pub extern "C" fn agc2_analyze_input_audio_each_into(
     samples: &[f32],
 )
     requires { ⌜ Good (wholeOf (now controller)) ⌝ }
-    ensures { λ _. ⌜ AnalyzedEachOf (wholeOf (now (controller .entry))) (now (volumes .entry)) «samples_per_channel» (now (samples .entry)) (now (controller .exit)) ⌝ }
+    ensures { λ _. ⌜ AnalyzedEachOf plainLimits (wholeOf (now (controller .entry))) (now (volumes .entry)) «samples_per_channel» (now (samples .entry)) (now (controller .exit)) ⌝ }
 {
     analyzed_into(
         controller,
         given::each_volume(volumes),
+        samples_per_channel,
+        samples,
+    )
+}
+
+// The word spotter's entry, with one volume for all channels. Causes 8, 9 and 18.
+#[no_mangle]
+pub extern "C" fn agc2_spotter_analyze_input_audio_into(
+    controller: &mut Agc2Controller,
+    applied_input_volume: i32,
+    samples_per_channel: usize,
+    samples: &[f32],
+)
+    requires { ⌜ Good (wholeOf (now controller)) ⌝ }
+    ensures { λ _. ⌜ AnalyzedOf spotterLimits (wholeOf (now (controller .entry))) «applied_input_volume» «samples_per_channel» (now (samples .entry)) (now (controller .exit)) ⌝ }
+{
+    analyzed_into(
+        controller,
+        given::spotter_one_volume(applied_input_volume),
+        samples_per_channel,
+        samples,
+    )
+}
+
+// The same with a volume for each channel. Causes 20, 8, 9 and 18.
+#[no_mangle]
+pub extern "C" fn agc2_spotter_analyze_input_audio_each_into(
+    controller: &mut Agc2Controller,
+    volumes: &[i32],
+    samples_per_channel: usize,
+    samples: &[f32],
+)
+    requires { ⌜ Good (wholeOf (now controller)) ⌝ }
+    ensures { λ _. ⌜ AnalyzedEachOf spotterLimits (wholeOf (now (controller .entry))) (now (volumes .entry)) «samples_per_channel» (now (samples .entry)) (now (controller .exit)) ⌝ }
+{
+    analyzed_into(
+        controller,
+        given::spotter_each_volume(volumes),
         samples_per_channel,
         samples,
     )

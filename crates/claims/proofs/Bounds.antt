@@ -5,14 +5,15 @@ use mathlib.Core.List.{List}
 use Prim.Native.Nat.{ℕ, zero, suc, _≤_, zero-le}
 use native.Mathlib.Nat.{not-suc-le-zero}
 use native.Mathlib.Omega.{arith}
-use lib.Dec.{ltb, eqb, le→leb}
+use lib.Dec.{ltb, le→leb}
 use lib.IntN.{ℤ, pos}
 use lib.Signed.{leZ-yes}
 use lib.Ieee.{Float, lt}
 use lib.ListN.{length}
-use Rattle.numbers.specs.declared.refusal.Outcome.the-variants.{Accepted}
+use Rattle.numbers.specs.declared.refusal.Outcome.{Outcome}
+use Rattle.numbers.specs.declared.refusal.Outcome.the-variants.{Accepted, Refused}
 use Rattle.numbers.specs.Natural.{withinOf}
-use Rattle.clipping_predictor.specs.Predictor.{maxChannels, frameFits, enteredIf}
+use Rattle.clipping_predictor.specs.Predictor.{maxChannels, enteredIf}
 use Rattle.clipping_predictor.specs.declared.settings.ClippingPredictorConfig.{ClippingPredictorConfig}
 use Rattle.mono_input_volume_controller.specs.declared.config.Config.{Config}
 use Rattle.mono_input_volume_controller.specs.declared.config.Settings.{Settings}
@@ -22,11 +23,11 @@ use Rattle.input_volume_controller.specs.declared.Applied.the-variants.{Nothing
 use Rattle.mono_input_volume_controller.specs.Config.{settingsFrom}
 use Rattle.input_volume_controller.specs.ClippedRatio.{clippedRatio}
 use Rattle.input_volume_controller.specs.Control.{Control}
-use Rattle.input_volume_controller.specs.ControlCalls.{raisedFor, aggregated, withAppliedInputVolumes, processChannels}
+use Rattle.input_volume_controller.specs.ControlCalls.{raisedFor, aggregated, processChannels}
 use Rattle.input_volume_controller.specs.Controller.{Controller, makingWith}
 use Rattle.input_volume_controller.specs.Reply.{Reply, mark, refusal, volume, none, done}
-use Rattle.input_volume_controller.specs.Volumes.{Volumes, outsideSet, numberSet, numbersOf}
-use Rattle.input_volume_controller.specs.Frame.{unlessWaiting, ifUsed, unlessRefused, analyzeInputAudio}
+use Rattle.input_volume_controller.specs.Volumes.{numbersOf, numbersIn}
+use Rattle.input_volume_controller.specs.Frame.{withVolumesApplied, frameOutcome, unlessWaiting, ifUsed, unlessRefused, analyzeInputAudio}
 use Rattle.input_volume_controller.specs.Recommendation.{recommendIf, unlessNone, recommendInputVolume}
 use Rattle.input_volume_controller.specs.Calls.{Call, frame, recommendation, initialise, captureSwitch, step, after}
 use Rattle.claims.specs.Bounds.{Within, InBounds, AnswersVolumes, Bounds}
@@ -56,11 +57,9 @@ used-fine true samples lent c =
     (record { control = c .control; predictor = enteredIf true samples lent (c .predictor) })
 used-fine false samples lent c = tt
 
-frame-fine : (counted : Bool) (v : Volumes) (fits : Bool) (samples : ℕ) (lent : List Float) (c : Controller) → Fine (unlessRefused counted v fits samples lent c .reply)
-frame-fine false v fits samples lent c = tt
-frame-fine true outsideSet fits samples lent c = tt
-frame-fine true (numberSet n) false samples lent c = tt
-frame-fine true (numberSet n) true samples lent c = used-fine (c .control .used) samples lent (record { control = withAppliedInputVolumes n (c .control); predictor = c .predictor })
+frame-fine : (o : Outcome) (volumes : List ℕ) (samples : ℕ) (lent : List Float) (c : Controller) → Fine (unlessRefused o volumes samples lent c .reply)
+frame-fine (Refused cause) volumes samples lent c = tt
+frame-fine Accepted volumes samples lent c = used-fine (c .control .used) samples lent (withVolumesApplied volumes c)
 
 -- with a volume above 0 pending, the volume that is taken is raised to the minimum
 raised-from : (a : Applied) (v least x : ℕ) → a ≡ Volume (suc v) → least ≤ raisedFor a least x
@@ -86,7 +85,7 @@ module _ (s : Settings) (low : s .least ≤ 255) where
 
   step-fine : (call : Call) (c : Controller) → Sound s (c .control) → Fine (step c call .reply)
   unfolding analyzeInputAudio recommendInputVolume
-  step-fine (frame v samples lent) c h = frame-fine (eqb (length v) (length (c .control .channels))) (numbersOf v) (frameFits (length (c .control .channels)) samples lent) samples lent c
+  step-fine (frame most v samples lent) c h = frame-fine (frameOutcome most (length (c .control .channels)) v samples lent) (numbersIn (numbersOf v)) samples lent c
   step-fine (recommendation p l) c h = recommendation-fine (c .control .applied) p l c refl h
   step-fine initialise c h = tt
   step-fine (captureSwitch on) c h = tt

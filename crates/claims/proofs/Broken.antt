@@ -3,23 +3,25 @@ use mathlib.Core.Path.{_≡_, refl, sym, subst}
 use mathlib.Core.Bool.{Bool, true, false, _&&_, _||_}
 use mathlib.Core.List.{List, _∷_, reverse}
 use Prim.Native.Nat.{ℕ, max}
-use lib.Dec.{ltb, eqb}
+use lib.Dec.{ltb}
 use lib.Ieee.{Float, lt}
 use lib.ListN.{length}
-use Rattle.clipping_predictor.specs.Predictor.{Predictor, frameFits, enteredIf}
+use Rattle.numbers.specs.declared.refusal.Outcome.{Outcome}
+use Rattle.numbers.specs.declared.refusal.Outcome.the-variants.{Accepted, Refused}
+use Rattle.clipping_predictor.specs.Predictor.{Predictor, enteredIf}
 use Rattle.mono_input_volume_controller.specs.declared.speech_level.SpeechLevel.{SpeechLevel}
 use Rattle.input_volume_controller.specs.declared.Applied.{Applied}
 use Rattle.input_volume_controller.specs.declared.Applied.the-variants.{Nothing, Volume}
 use Rattle.input_volume_controller.specs.ClippedRatio.{clippedRatio}
-use Rattle.input_volume_controller.specs.ControlCalls.{withAppliedInputVolumes}
 use Rattle.input_volume_controller.specs.Controller.{Controller}
 use Rattle.clipping_predictor.specs.AllRings.{predictedBy}
-use Rattle.input_volume_controller.specs.Volumes.{Volumes, outsideSet, numberSet, areNumbers, numbersOf}
-use Rattle.input_volume_controller.specs.Frame.{askedOf, handleIf, unlessWaiting, ifUsed, unlessRefused, analyzeInputAudio}
+use Rattle.input_volume_controller.specs.Volumes.{numbersOf, numbersIn}
+use Rattle.input_volume_controller.specs.Frame.{askedOf, handleIf, withVolumesApplied, frameOutcome, unlessWaiting, ifUsed, unlessRefused, analyzeInputAudio}
 use Rattle.input_volume_controller.specs.Recommendation.{recommendIf, unlessNone, recommendInputVolume}
 use Rattle.input_volume_controller.specs.Calls.{Call, frame, recommendation, initialise, captureSwitch, step, after}
-use Rattle.claims.specs.Past.{captureOn, isAccepted}
+use Rattle.claims.specs.Past.{captureOn}
 use Rattle.claims.specs.Broken.{Frame, withIf, acceptedFrames, BrokenLeaves}
+use Rattle.claims.proofs.Outcomes.{isTaken, accepted-is}
 use Rattle.claims.proofs.Capture.{Open, open-next}
 use Rattle.claims.proofs.Newest.{from-newest}
 use Rattle.claims.proofs.Stored.{Stored, stored-first, stored-emptied, stored-entered, stored-alone}
@@ -45,12 +47,10 @@ module _ (start : Predictor) (frames : List Frame) (samples : ℕ) (lent : List 
       (record { control = c .control; predictor = enteredIf true samples lent (c .predictor) }) (stored-entered start frames (c .predictor) samples lent h)
   if-used false c h = h
 
-  unless-refused : (counted : Bool) (v : Volumes) (fits : Bool) (c : Controller) → Stored start frames (c .predictor)
-      → Stored start (withIf ((counted && (areNumbers v && fits)) && c .control .used) (record { samples = samples; lent = lent }) frames) (unlessRefused counted v fits samples lent c .state .predictor)
-  unless-refused false v fits c h = h
-  unless-refused true outsideSet fits c h = h
-  unless-refused true (numberSet n) false c h = h
-  unless-refused true (numberSet n) true c h = if-used (c .control .used) (record { control = withAppliedInputVolumes n (c .control); predictor = c .predictor }) h
+  unless-refused : (o : Outcome) (volumes : List ℕ) (c : Controller) → Stored start frames (c .predictor)
+      → Stored start (withIf (isTaken o && c .control .used) (record { samples = samples; lent = lent }) frames) (unlessRefused o volumes samples lent c .state .predictor)
+  unless-refused (Refused cause) volumes c h = h
+  unless-refused Accepted volumes c h = if-used (c .control .used) (withVolumesApplied volumes c) h
 
 -- ---- a recommendation leaves the rings alone
 
@@ -71,12 +71,12 @@ record Since (start : Controller) (past : List Call) (c : Controller) : Type 0 w
 
 module _ (start : Controller) where
   stored-next : (call : Call) (past : List Call) (c : Controller) → Since start past c → Stored (start .predictor) (acceptedFrames (length (start .control .channels)) (start .control .used) (call ∷ past)) (step c call .state .predictor)
-  unfolding acceptedFrames isAccepted analyzeInputAudio recommendInputVolume
-  stored-next (frame v samples lent) past c h =
+  unfolding acceptedFrames analyzeInputAudio recommendInputVolume
+  stored-next (frame most v samples lent) past c h =
       let frames = acceptedFrames (length (start .control .channels)) (start .control .used) past in
-      subst (λ (t : Bool). Stored (start .predictor) (withIf t (record { samples = samples; lent = lent }) frames) (step c (frame v samples lent) .state .predictor))
-      (λ i. (eqb (length v) (h .capture .channels i) && (areNumbers (numbersOf v) && frameFits (h .capture .channels i) samples lent)) && h .capture .used i)
-      (unless-refused (start .predictor) frames samples lent (eqb (length v) (length (c .control .channels))) (numbersOf v) (frameFits (length (c .control .channels)) samples lent) c (h .stored))
+      subst (λ (t : Bool). Stored (start .predictor) (withIf t (record { samples = samples; lent = lent }) frames) (step c (frame most v samples lent) .state .predictor))
+      (λ i. accepted-is most v samples lent (h .capture .channels) i && h .capture .used i)
+      (unless-refused (start .predictor) frames samples lent (frameOutcome most (length (c .control .channels)) v samples lent) (numbersIn (numbersOf v)) c (h .stored))
   stored-next (recommendation probability level) past c h = subst (Stored (start .predictor) _) (sym (recommendation-same (c .control .applied) probability level c)) (h .stored)
   stored-next initialise past c h = h .stored
   stored-next (captureSwitch on) past c h = h .stored

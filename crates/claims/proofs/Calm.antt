@@ -1,18 +1,20 @@
 -- A calm list of calls, and that after enough quiet frames in it, but for one, the next makes rings and count known. Assumes nothing.
 use mathlib.Core.Path.{_≡_, refl, sym, subst}
 use mathlib.Core.List.{List, [], _∷_}
-use mathlib.Core.Bool.{Bool, true, false, not, _&&_, _||_}
+use mathlib.Core.Bool.{Bool, true, false, not, _||_}
 use Prim.Native.Nat.{ℕ, suc, _+_, _-_, _≤_, zero-le}
 use native.Mathlib.Nat.{le-refl}
 use native.Mathlib.Omega.{arith}
-use lib.Dec.{T, eqb}
+use lib.Dec.{T}
 use lib.Ieee.{Float, le}
 use lib.ListN.{length, replicate}
+use Rattle.numbers.specs.declared.refusal.Outcome.{Outcome}
+use Rattle.numbers.specs.declared.refusal.Outcome.the-variants.{Accepted, Refused}
 use Rattle.clipping_predictor_level_buffer.specs.declared.level.Level.{Level}
 use Rattle.clipping_predictor_level_buffer.specs.Statistics.{plusZero}
 use Rattle.clipping_predictor.specs.declared.settings.Settings as Predictor
 use Rattle.clipping_predictor.specs.Estimate.{capacityIf, capacityOf}
-use Rattle.clipping_predictor.specs.Predictor.{levelsOf, frameFits}
+use Rattle.clipping_predictor.specs.Predictor.{levelsOf}
 use Rattle.mono_input_volume_controller.specs.declared.config.Settings.{Settings}
 use Rattle.mono_input_volume_controller.specs.declared.speech_level.SpeechLevel.{SpeechLevel}
 use Rattle.input_volume_controller.specs.declared.Applied.{Applied}
@@ -20,14 +22,15 @@ use Rattle.input_volume_controller.specs.declared.Applied.the-variants.{Nothing
 use Rattle.clipping_predictor_level_buffer.specs.Clipped.{oneIf}
 use Rattle.input_volume_controller.specs.ControlCalls.{aggregated, initialize, processChannels}
 use Rattle.input_volume_controller.specs.Controller.{Controller}
-use Rattle.input_volume_controller.specs.Volumes.{Volumes, outsideSet, numberSet, areNumbers, numbersOf}
-use Rattle.input_volume_controller.specs.Frame.{unlessRefused, analyzeInputAudio}
+use Rattle.input_volume_controller.specs.Volumes.{numbersOf, numbersIn}
+use Rattle.input_volume_controller.specs.Frame.{frameOutcome, unlessRefused, analyzeInputAudio}
 use Rattle.input_volume_controller.specs.Recommendation.{recommendIf, unlessNone, recommendInputVolume}
 use Rattle.input_volume_controller.specs.Calls.{Call, frame, recommendation, initialise, captureSwitch, step, after}
 use Rattle.claims.specs.Past.{isAccepted}
 use Rattle.claims.specs.LeadIn.{all, acceptedBy, acceptedIn, isLow, quietFor, isCalm}
 use Rattle.claims.specs.TwoPasts.{enoughFor}
 use Rattle.claims.proofs.Lists.{and-l, and-r, is-true}
+use Rattle.claims.proofs.Outcomes.{isTaken, accepted-is}
 use Rattle.claims.proofs.Kept.{Kept, count-of, kept-step}
 use Rattle.claims.proofs.Rings.{grow, match-start}
 use Rattle.claims.proofs.Led.{Led, led-same}
@@ -41,7 +44,7 @@ growIf false levels grown = grown
 
 unfoldable pub grownBy : ℕ → Call → List (List Level) → List (List Level)
 unfolding isAccepted
-grownBy n (frame volumes samples lent) grown = growIf (isAccepted n volumes samples lent) (levelsOf n samples lent) grown
+grownBy n (frame most volumes samples lent) grown = growIf (isAccepted most n volumes samples lent) (levelsOf n samples lent) grown
 grownBy n (recommendation probability level) grown = grown
 grownBy n initialise grown = grown
 grownBy n (captureSwitch on) grown = grown
@@ -79,20 +82,20 @@ module _ (p : Predictor.Settings) (s : Settings) (n : ℕ) where
   led-switch on grown k c t h = record { on = is-true on t; m = h .m; late = h .late; rows = h .rows; waited = h .waited }
 
   module _ (window : 1 ≤ p .window) (ratio : T (le plusZero (s .«clipped_ratio»))) where
-    led-heard : (counted : Bool) (volumes : Volumes) (fits : Bool) (samples : ℕ) (lent : List Float) (grown : List (List Level)) (k : ℕ) (c : Controller) → Kept p s n c
-        → T (not (counted && (areNumbers volumes && fits)) || quietFor p n samples lent) → L grown k c
-        → L (growIf (counted && (areNumbers volumes && fits)) (levelsOf n samples lent) grown) (oneIf (counted && (areNumbers volumes && fits)) + k) (unlessRefused counted volumes fits samples lent c .state)
-    led-heard false volumes fits samples lent grown k c b t h = led-by _ k (0 + k) _ (omega arith) h
-    led-heard true outsideSet fits samples lent grown k c b t h = led-by _ k (0 + k) _ (omega arith) h
-    led-heard true (numberSet volumes) false samples lent grown k c b t h = led-by _ k (0 + k) _ (omega arith) h
-    led-heard true (numberSet volumes) true samples lent grown k c b t h = led-by _ (suc k) (1 + k) _ (omega arith) (led-frame p s n window ratio volumes samples lent grown k c b t h)
+    led-heard : (o : Outcome) (volumes : List ℕ) (samples : ℕ) (lent : List Float) (grown : List (List Level)) (k : ℕ) (c : Controller) → Kept p s n c
+        → T (not (isTaken o) || quietFor p n samples lent) → L grown k c
+        → L (growIf (isTaken o) (levelsOf n samples lent) grown) (oneIf (isTaken o) + k) (unlessRefused o volumes samples lent c .state)
+    led-heard (Refused cause) volumes samples lent grown k c b t h = led-by _ k (0 + k) _ (omega arith) h
+    led-heard Accepted volumes samples lent grown k c b t h = led-by _ (suc k) (1 + k) _ (omega arith) (led-frame p s n window ratio volumes samples lent grown k c b t h)
 
     led-step : (call : Call) (grown : List (List Level)) (k : ℕ) (c : Controller) → Kept p s n c → T (isCalm n (quietFor p n) call) → L grown k c
         → L (grownBy n call grown) (acceptedBy n call + k) (step c call .state)
-    unfolding grownBy acceptedBy isCalm isAccepted analyzeInputAudio recommendInputVolume
-    led-step (frame volumes samples lent) grown k c b t h =
-        subst (λ (x : ℕ). L (grownBy n (frame volumes samples lent) grown) (acceptedBy n (frame volumes samples lent) + k) (unlessRefused (eqb (length volumes) x) (numbersOf volumes) (frameFits x samples lent) samples lent c .state))
-        (sym (count-of s n (c .control) (b .control))) (led-heard (eqb (length volumes) n) (numbersOf volumes) (frameFits n samples lent) samples lent grown k c b t h)
+    unfolding grownBy acceptedBy isCalm analyzeInputAudio recommendInputVolume
+    led-step (frame most volumes samples lent) grown k c b t h =
+        let o = frameOutcome most (length (c .control .channels)) volumes samples lent in
+        let accepted : isTaken o ≡ isAccepted most n volumes samples lent = accepted-is most volumes samples lent (count-of s n (c .control) (b .control)) in
+        subst (λ (a : Bool). L (growIf a (levelsOf n samples lent) grown) (oneIf a + k) (step c (frame most volumes samples lent) .state)) accepted
+        (led-heard o (numbersIn (numbersOf volumes)) samples lent grown k c b (subst (λ (a : Bool). T (not a || quietFor p n samples lent)) (sym accepted) t) h)
     led-step (recommendation probability level) grown k c b t h = led-by _ k (0 + k) _ (omega arith) (led-asked (c .control .applied) probability level grown k c h)
     led-step initialise grown k c b t h = led-by _ k (0 + k) _ (omega arith) (led-initialise grown k c h)
     led-step (captureSwitch on) grown k c b t h = led-by _ k (0 + k) _ (omega arith) (led-switch on grown k c t h)

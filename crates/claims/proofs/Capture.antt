@@ -39,8 +39,8 @@ module _ (count : ℕ) where
   -- by one call more
   pub open-next : (start : Bool) (call : Call) (past : List Call) (c : Controller) → Open (captureOn start past) count (c .control) → Open (captureOn start (call ∷ past)) count (step c call .state .control)
   unfolding captureOn
-  open-next start (frame volumes samples lent) past c h =
-      frame-keeps Any (Open (captureOn start past) count) (open-runs (captureOn start past)) volumes samples lent c (any-given volumes samples lent c) h
+  open-next start (frame most volumes samples lent) past c h =
+      frame-keeps Any (Open (captureOn start past) count) (open-runs (captureOn start past)) most volumes samples lent c (any-given most volumes samples lent c) h
   open-next start (recommendation probability level) past c h = recommendation-keeps Any (Open (captureOn start past) count) (open-runs (captureOn start past)) probability level c h
   open-next start initialise past c h = open-initialised (captureOn start past) (c .control) h
   open-next start (captureSwitch on) past c h = open-switched (captureOn start past) on (c .control) h

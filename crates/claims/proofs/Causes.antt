@@ -16,8 +16,10 @@ use Rattle.numbers.proofs.Ranges.{told}
 use Rattle.clipping_predictor.specs.Predictor.{frameFits}
 use Rattle.mono_input_volume_controller.specs.Config.{inRange, bothInRange, inUnit, bothInUnit}
 use Rattle.mono_input_volume_controller.specs.MonoState.{maxInputVolume}
+use Rattle.input_volume_controller.specs.declared.limits.Limits.{Limits}
 use Rattle.input_volume_controller.specs.Volumes.{Volumes, outsideSet, numberSet, andVolume, areNumbers, numbersOf}
-use Rattle.claims.specs.Causes.{Cause, outside, anyOutside, outsideUnit, frameCauses}
+use Rattle.input_volume_controller.specs.Limits.{isWithin}
+use Rattle.claims.specs.Causes.{Cause, outside, anyOutside, outsideUnit, isOver, frameCauses}
 
 -- ---- the order
 
@@ -104,10 +106,18 @@ unfolding numbersOf
 set-is [] = refl
 set-is (volume ∷ volumes) = (λ i. within-is 0 255 volume i || set-is volumes i) ∙ one-more (withinOf 0 maxInputVolume volume) (numbersOf volumes)
 
--- causes 20, 8 and 9 from their outcomes
-abbrev pub frameCausesBy : Bool → Bool → Bool → List Cause
-frameCausesBy a b c = record { number = 20; holds = a } ∷ record { number = 8; holds = b } ∷ record { number = 9; holds = c } ∷ []
+-- ---- the limits of an entry
 
-pub frame-causes : (channels : ℕ) (volumes : List ℤ) (samples : ℕ) (lent : List Float)
-    → frameCauses channels volumes samples lent ≡ frameCausesBy (not (eqb (length volumes) channels)) (not (areNumbers (numbersOf volumes))) (not (frameFits channels samples lent))
-frame-causes channels volumes samples lent = λ i. frameCausesBy (not (eqb (length volumes) channels)) (set-is volumes i) (misfit-is channels samples lent i)
+pub over-is : (most : Limits) (channels samples : ℕ) → isOver most channels samples ≡ not (isWithin most channels samples)
+over-is most channels samples = (λ i. less-is channels (most .channels) i || less-is samples (most .samples) i) ∙ either (leb channels (most .channels)) (leb samples (most .samples))
+
+-- ---- a frame
+
+-- causes 20, 8, 9 and 18 from their outcomes
+abbrev pub frameCausesBy : Bool → Bool → Bool → Bool → List Cause
+frameCausesBy a b c d = record { number = 20; holds = a } ∷ record { number = 8; holds = b } ∷ record { number = 9; holds = c } ∷ record { number = 18; holds = d } ∷ []
+
+pub frame-causes : (most : Limits) (channels : ℕ) (volumes : List ℤ) (samples : ℕ) (lent : List Float)
+    → frameCauses most channels volumes samples lent
+    ≡ frameCausesBy (not (eqb (length volumes) channels)) (not (areNumbers (numbersOf volumes))) (not (frameFits channels samples lent)) (not (isWithin most channels samples))
+frame-causes most channels volumes samples lent = λ i. frameCausesBy (not (eqb (length volumes) channels)) (set-is volumes i) (misfit-is channels samples lent i) (over-is most channels samples i)

@@ -28,6 +28,7 @@ use Rattle.claims.proofs.Depends.{depends-on-one, said-by-others}
 use Rattle.claims.proofs.DependsEach.{depends-on-each}
 use Rattle.claims.proofs.AsOneInCode.{as-one-in-code, as-one-in-library}
 use Rattle.claims.proofs.OneVolume.{one-volume}
+use Rattle.claims.proofs.ShortFrames.{short-frames}
 use Rattle.claims.proofs.EachTakesItsOwn.{each-takes-its-own}
 use Rattle.claims.proofs.LowestIsApplied.{lowest-is-applied}
 use Rattle.claims.proofs.Controlling.{controlling-is-lowest}
@@ -70,5 +71,6 @@ claims = record {
   lowest-is-applied = lowest-is-applied;
   controlling-is-lowest = controlling-is-lowest;
   one-volume = one-volume;
+  short-frames = short-frames;
   none = none-exactly;
 }

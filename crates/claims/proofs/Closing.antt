@@ -36,7 +36,8 @@ use Rattle.claims.proofs.Rings.{grow}
 use Rattle.claims.proofs.Led.{entered, Led}
 use Rattle.claims.proofs.QuietFrames.{counting, quiet-frame, full-rings}
 use Rattle.claims.proofs.Calm.{grownIn, led-start, led-after, led-initialise, ready-rings, ready-since, ready-window}
-use Rattle.claims.proofs.Runs.{after-append, after-refused, skip, accepted-as, step-numbers, step-recommended}
+use Rattle.claims.proofs.Outcomes.{accepted-as}
+use Rattle.claims.proofs.Runs.{after-append, after-refused, skip, step-numbers, step-recommended}
 
 module _ (vs : List ℕ) (samples : ℕ) (lent : List Float) (probability : Float) (level : SpeechLevel) where
   -- the state that the last three calls leave, by the settings, what is left of the channels, the count that the frame leaves, and the predictor that it leaves
@@ -96,10 +97,10 @@ module _ (p : Predictor.Settings) (s : Settings) (n : ℕ) (good : Good p) (rati
     led-first : Led p s grown k first
     led-first = led-initialise p s n grown k c h
 
-    to-second : step first (frame (map pos (l .volumes)) (l .samples) (l .lent)) .state ≡ second
+    to-second : step first (frame (l .most) (map pos (l .volumes)) (l .samples) (l .lent)) .state ≡ second
     unfolding initialize aggregated
     to-second =
-        ap (λ (x : Stepped). x .state) (step-numbers n (l .volumes) (l .samples) (l .lent) first (count-of s n (first .control) (kept-first .control)) (l .accepted))
+        ap (λ (x : Stepped). x .state) (step-numbers n (l .most) (l .volumes) (l .samples) (l .lent) first (count-of s n (first .control) (kept-first .control)) (l .accepted))
         ∙ quiet-frame p s n (good .window-low) ratio (l .volumes) (l .samples) (l .lent) grown k first kept-first (l .still) led-first
         (ready-window p s n k (good .reference-low) e) (ready-since p s n grown k first led-first e)
 
@@ -107,7 +108,7 @@ module _ (p : Predictor.Settings) (s : Settings) (n : ℕ) (good : Good p) (rati
     unfolding canon
     to-final =
         closing (l .volumes) (l .samples) (l .lent) (l .probability) (l .level) (s .«clipped_wait») c
-        (sym (length-map (l .volumes) pos) ∙ accepted-as n (map pos (l .volumes)) (l .samples) (l .lent) (l .accepted) .count ∙ sym (count-of s n (c .control) (b .control))) (l .positive)
+        (sym (length-map (l .volumes) pos) ∙ accepted-as (l .most) (map pos (l .volumes)) (l .samples) (l .lent) n (l .accepted) .count ∙ sym (count-of s n (c .control) (b .control))) (l .positive)
         ∙ (λ i. final (l .volumes) (l .samples) (l .lent) (l .probability) (l .level) (b .control .settings i) (b .control .cores i) (s .«clipped_wait»)
         (record {
           settings = b .settings i;
@@ -119,7 +120,7 @@ module _ (p : Predictor.Settings) (s : Settings) (n : ℕ) (good : Good p) (rati
     to-third = step-recommended (l .probability) (l .level) (lowestOf (l .volumes)) second refl refl ∙ to-final
 
     kept-second : Kept p s n second
-    kept-second = subst (Kept p s n) to-second (kept-step p s n (frame (map pos (l .volumes)) (l .samples) (l .lent)) first kept-first)
+    kept-second = subst (Kept p s n) to-second (kept-step p s n (frame (l .most) (map pos (l .volumes)) (l .samples) (l .lent)) first kept-first)
 
     kept-third : Kept p s n (canon grown)
     kept-third = subst (Kept p s n) to-third (kept-step p s n (recommendation (l .probability) (l .level)) second kept-second)
@@ -128,7 +129,7 @@ module _ (p : Predictor.Settings) (s : Settings) (n : ℕ) (good : Good p) (rati
     rest = l .afterFrame ++ (recommendation (l .probability) (l .level) ∷ l .afterRecommendation)
 
     -- from the initialise on
-    ending : after first (l .afterInitialise ++ (frame (map pos (l .volumes)) (l .samples) (l .lent) ∷ rest)) ≡ canon grown
+    ending : after first (l .afterInitialise ++ (frame (l .most) (map pos (l .volumes)) (l .samples) (l .lent) ∷ rest)) ≡ canon grown
     unfolding after
     ending =
         skip n (l .afterInitialise) _ first (count-of s n (first .control) (kept-first .control)) (all-left (isRefused n) (l .afterInitialise) _ (l .refused))

@@ -5,10 +5,12 @@ use mathlib.Core.List.{List, [], _∷_, map}
 use Prim.Native.Nat.{ℕ, _+_, _≤_, max}
 use native.Mathlib.Omega.{arith}
 use borrow.Author.Tests.{leb-true}
-use lib.Dec.{leb, ltb, eqb}
+use lib.Dec.{leb, ltb}
 use lib.IntN.{ℤ, pos, negsuc}
 use lib.Ieee.{Float, lt}
 use lib.ListN.{length, take, drop, length-take}
+use Rattle.numbers.specs.declared.refusal.Outcome.{Outcome}
+use Rattle.numbers.specs.declared.refusal.Outcome.the-variants.{Accepted, Refused}
 use Rattle.numbers.proofs.Truths.{both-true}
 use Rattle.clipping_predictor_level_buffer.specs.declared.level.Level.{Level}
 use Rattle.clipping_predictor_level_buffer.specs.declared.Metrics.the-variants.{Found}
@@ -19,18 +21,18 @@ use Rattle.clipping_predictor_level_buffer.proofs.Clipped.{clipped-most}
 use Rattle.clipping_predictor_level_buffer.proofs.Counts.{counted-take}
 use Rattle.clipping_predictor_level_buffer.proofs.Sums.{later-counted, total-most}
 use Rattle.clipping_predictor.specs.declared.modes.Estimated.{Estimated}
-use Rattle.clipping_predictor.specs.Predictor.{Predictor, frameFits}
+use Rattle.clipping_predictor.specs.Predictor.{Predictor}
 use Rattle.clipping_predictor.specs.AllRings.{predictedBy}
 use Rattle.mono_input_volume_controller.specs.declared.speech_level.SpeechLevel.{SpeechLevel}
 use Rattle.input_volume_controller.specs.declared.Applied.{Applied}
 use Rattle.input_volume_controller.specs.declared.Applied.the-variants.{Nothing, Volume}
 use Rattle.input_volume_controller.specs.ClippedRatio.{clippedRatio}
-use Rattle.input_volume_controller.specs.Volumes.{Volumes, outsideSet, numberSet, numbersOf}
+use Rattle.input_volume_controller.specs.Volumes.{numbersOf, numbersIn}
 use Rattle.input_volume_controller.specs.Control.{Control}
 use Rattle.input_volume_controller.specs.ControlCalls.{lowerChannels}
 use Rattle.input_volume_controller.specs.Controller.{Controller}
 use Rattle.input_volume_controller.specs.Reply.{Stepped}
-use Rattle.input_volume_controller.specs.Frame.{askedOf, handleIf, handled, unlessWaiting, ifUsed, withVolumesApplied, unlessRefused, analyzeInputAudio}
+use Rattle.input_volume_controller.specs.Frame.{askedOf, handleIf, handled, unlessWaiting, ifUsed, withVolumesApplied, frameOutcome, unlessRefused, analyzeInputAudio}
 use Rattle.input_volume_controller.specs.Recommendation.{recommendIf, unlessNone, recommendInputVolume}
 use Rattle.input_volume_controller.specs.Calls.{Call, frame, recommendation, initialise, captureSwitch, step, answers}
 use Rattle.claims.specs.Counts.{uncountedIn, heardUncounted, AlikeUncounted, CountsAreUnread, CountsWithin}
@@ -78,12 +80,10 @@ used-blind true samples lent c =
     alike (unlessWaiting waiting clipped) (waiting-blind waiting clipped) _ _ (λ i. record { control = c .control; predictor = entered-uncounted samples lent (c .predictor) i })
 used-blind false samples lent c = record { reply = refl; state = again (c .control) (c .predictor) }
 
-frame-blind : (counted : Bool) (v : Volumes) (fits : Bool) (samples : ℕ) (lent : List Float) (c : Controller)
-    → EqualUncounted (unlessRefused counted v fits samples lent (uncountedIn c)) (unlessRefused counted v fits samples lent c)
-frame-blind false v fits samples lent c = record { reply = refl; state = again (c .control) (c .predictor) }
-frame-blind true outsideSet fits samples lent c = record { reply = refl; state = again (c .control) (c .predictor) }
-frame-blind true (numberSet volumes) false samples lent c = record { reply = refl; state = again (c .control) (c .predictor) }
-frame-blind true (numberSet volumes) true samples lent c = used-blind (c .control .used) samples lent (withVolumesApplied volumes c)
+frame-blind : (o : Outcome) (volumes : List ℕ) (samples : ℕ) (lent : List Float) (c : Controller)
+    → EqualUncounted (unlessRefused o volumes samples lent (uncountedIn c)) (unlessRefused o volumes samples lent c)
+frame-blind (Refused cause) volumes samples lent c = record { reply = refl; state = again (c .control) (c .predictor) }
+frame-blind Accepted volumes samples lent c = used-blind (c .control .used) samples lent (withVolumesApplied volumes c)
 
 recommended-blind : (used : Bool) (applied : ℕ) (probability : Float) (level : SpeechLevel) (c : Controller) → EqualUncounted (recommendIf used applied probability level (uncountedIn c)) (recommendIf used applied probability level c)
 recommended-blind true applied probability level c = record { reply = refl; state = again _ (c .predictor) }
@@ -95,8 +95,7 @@ asked-blind (Volume applied) probability level c = recommended-blind (c .control
 
 step-blind : (call : Call) (c : Controller) → EqualUncounted (step (uncountedIn c) call) (step c call)
 unfolding analyzeInputAudio recommendInputVolume
-step-blind (frame volumes samples lent) c =
-    frame-blind (eqb (length volumes) (length (c .control .channels))) (numbersOf volumes) (frameFits (length (c .control .channels)) samples lent) samples lent c
+step-blind (frame most volumes samples lent) c = frame-blind (frameOutcome most (length (c .control .channels)) volumes samples lent) (numbersIn (numbersOf volumes)) samples lent c
 step-blind (recommendation probability level) c = asked-blind (c .control .applied) probability level c
 step-blind initialise c = record { reply = refl; state = again _ (c .predictor) }
 step-blind (captureSwitch on) c = record { reply = refl; state = again _ (c .predictor) }

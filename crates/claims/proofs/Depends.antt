@@ -4,21 +4,21 @@ use mathlib.Core.Bool.{Bool, true, false}
 use mathlib.Core.List.{List, [], _∷_}
 use Prim.Native.Nat.{ℕ, _<_}
 use native.Mathlib.Omega.{arith}
-use lib.Dec.{eqb}
 use lib.Ieee.{Float}
 use lib.ListN.{length, getD, replicate, getD-replicate}
-use Rattle.clipping_predictor.specs.Predictor.{frameFits}
+use Rattle.numbers.specs.declared.refusal.Outcome.{Outcome}
+use Rattle.numbers.specs.declared.refusal.Outcome.the-variants.{Accepted, Refused}
 use Rattle.mono_input_volume_controller.specs.declared.mono.MonoInputVolumeController.{MonoInputVolumeController}
 use Rattle.mono_input_volume_controller.specs.declared.speech_level.SpeechLevel.{SpeechLevel}
 use Rattle.input_volume_controller.specs.declared.Applied.{Applied}
 use Rattle.input_volume_controller.specs.declared.Applied.the-variants.{Nothing, Volume}
-use Rattle.input_volume_controller.specs.Volumes.{Volumes, outsideSet, numberSet, numbersOf}
+use Rattle.input_volume_controller.specs.Volumes.{numbersOf, numbersIn}
 use Rattle.input_volume_controller.specs.Channels.{noChannel}
 use Rattle.input_volume_controller.specs.Control.{withVolume}
 use Rattle.input_volume_controller.specs.ControlCalls.{aggregated, withAppliedInputVolumes, initialize, processChannels}
 use Rattle.input_volume_controller.specs.Controller.{Controller, freshWith}
 use Rattle.input_volume_controller.specs.Reply.{Stepped}
-use Rattle.input_volume_controller.specs.Frame.{unlessRefused, analyzeInputAudio}
+use Rattle.input_volume_controller.specs.Frame.{frameOutcome, unlessRefused, analyzeInputAudio}
 use Rattle.input_volume_controller.specs.Recommendation.{recommendIf, unlessNone, recommendInputVolume}
 use Rattle.input_volume_controller.specs.Calls.{Call, frame, recommendation, initialise, captureSwitch, step, answers}
 use Rattle.claims.specs.Equal.{AsOne}
@@ -40,13 +40,10 @@ record EqualBare (a b : Stepped) : Type 0 where
   state : bare (a .state) ≡ bare (b .state)
 
 -- each call does with the bare controller what it does with the whole
-bare-frame : (counted : Bool) (v : Volumes) (fits : Bool) (samples : ℕ) (lent : List Float) (c : Controller)
-    → EqualBare (unlessRefused counted v fits samples lent (bare c)) (unlessRefused counted v fits samples lent c)
+bare-frame : (o : Outcome) (volumes : List ℕ) (samples : ℕ) (lent : List Float) (c : Controller) → EqualBare (unlessRefused o volumes samples lent (bare c)) (unlessRefused o volumes samples lent c)
 unfolding withAppliedInputVolumes aggregated
-bare-frame false v fits samples lent c = record { reply = refl; state = refl }
-bare-frame true outsideSet fits samples lent c = record { reply = refl; state = refl }
-bare-frame true (numberSet volumes) false samples lent c = record { reply = refl; state = refl }
-bare-frame true (numberSet volumes) true samples lent c = record { reply = refl; state = refl }
+bare-frame (Refused cause) volumes samples lent c = record { reply = refl; state = refl }
+bare-frame Accepted volumes samples lent c = record { reply = refl; state = refl }
 
 bare-recommends : (used : Bool) (applied : ℕ) (probability : Float) (level : SpeechLevel) (c : Controller)
     → EqualBare (recommendIf used applied probability level (bare c)) (recommendIf used applied probability level c)
@@ -60,8 +57,7 @@ bare-asked (Volume applied) probability level c = bare-recommends (c .control .u
 
 bare-step : (c : Controller) (call : Call) → EqualBare (step (bare c) call) (step c call)
 unfolding analyzeInputAudio recommendInputVolume initialize aggregated
-bare-step c (frame volumes samples lent) =
-    bare-frame (eqb (length volumes) (length (c .control .channels))) (numbersOf volumes) (frameFits (length (c .control .channels)) samples lent) samples lent c
+bare-step c (frame most volumes samples lent) = bare-frame (frameOutcome most (length (c .control .channels)) volumes samples lent) (numbersIn (numbersOf volumes)) samples lent c
 bare-step c (recommendation probability level) = bare-asked (c .control .applied) probability level c
 bare-step c initialise = record { reply = refl; state = refl }
 bare-step c (captureSwitch on) = record { reply = refl; state = refl }

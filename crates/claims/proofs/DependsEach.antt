@@ -34,6 +34,7 @@ use Rattle.clipping_predictor_level_buffer.specs.Clipped.{countOf, clippedIn, t
 use Rattle.clipping_predictor.specs.MostClipped.{mostClipped}
 use Rattle.input_volume_controller.specs.ClippedRatio.{clippedRatio}
 use Rattle.input_volume_controller.specs.Volumes.{numbersOf, lowestOf}
+use Rattle.input_volume_controller.specs.Limits.{plainLimits}
 use Rattle.input_volume_controller.specs.Channels.{called, eachGiven, aggregateOf}
 use Rattle.input_volume_controller.specs.ControlCalls.{withAppliedInputVolumes, initialize, lowerChannels}
 use Rattle.input_volume_controller.specs.Controller.{predictorSettings, basePredictor}
@@ -73,7 +74,7 @@ alone (v ∷ w ∷ volumes) e = absurd (omega arith)
 
 even-call : (call : Call) → EvenCall 1 call
 unfolding isAccepted
-even-call (frame volumes samples lent) = λ t. alone volumes (eqb→eq (length volumes) 1 (and-l (eqb (length volumes) 1) _ t))
+even-call (frame most volumes samples lent) = λ t. alone volumes (eqb→eq (length volumes) 1 (and-l (eqb (length volumes) 1) _ t))
 even-call (recommendation probability level) = tt
 even-call initialise = tt
 even-call (captureSwitch on) = tt
@@ -298,10 +299,10 @@ abbrev ofTwo : List Call → History
 ofTwo calls = record { predictor = predictorSettings (settingsFrom defaults .predicts); settings = settingsFrom defaults; channels = 2; calls = calls }
 
 abbrev stillAt : ℕ → ℕ → Call
-stillAt one other = frame (pos one ∷ pos other ∷ []) 1 (plusZero ∷ plusZero ∷ [])
+stillAt one other = frame plainLimits (pos one ∷ pos other ∷ []) 1 (plusZero ∷ plusZero ∷ [])
 
 abbrev clippedAt : ℕ → Call
-clippedAt volume = frame (pos volume ∷ pos volume ∷ []) 1 (fin false 32767 (pos 0) ∷ fin false 32767 (pos 0) ∷ [])
+clippedAt volume = frame plainLimits (pos volume ∷ pos volume ∷ []) 1 (fin false 32767 (pos 0) ∷ fin false 32767 (pos 0) ∷ [])
 
 -- A recommendation has left each channel the volume that it had. A clipped frame at 100 lowers a channel that was left 100, but not one that was left 50: there the volume is taken as the user's.
 abbrev uneven : History

@@ -24,7 +24,8 @@ use Rattle.input_volume_controller.specs.Frame.{askedOf, handleIf, unlessWaitin
 use Rattle.input_volume_controller.specs.Calls.{frame, step}
 use Rattle.claims.specs.EachTakesItsOwn.{loweredBy, EachTakesItsOwn}
 use Rattle.input_volume_controller.proofs.ChannelLists.{length-given}
-use Rattle.claims.proofs.Runs.{accepted-as, step-accepted}
+use Rattle.claims.proofs.Outcomes.{accepted-as}
+use Rattle.claims.proofs.Runs.{step-accepted}
 
 -- ---- all channels lowered, or none
 
@@ -83,15 +84,15 @@ given-at (v ∷ vs) (m ∷ ms) (suc i) e h = given-at vs ms i (omega (arith, e))
 -- THE CLAIM
 pub each-takes-its-own : EachTakesItsOwn
 unfolding withAppliedInputVolumes aggregated
-each-takes-its-own c volumes samples lent t =
+each-takes-its-own c most volumes samples lent t =
     let n = length (c .control .channels) in
     let numbers = map natAbs volumes in
     let given = eachGiven numbers (c .control .channels) in
-    let next : step c (frame volumes samples lent) ≡ ifUsed (c .control .used) samples lent (withVolumesApplied numbers c) = step-accepted n volumes samples lent c refl t in
+    let next : step c (frame most volumes samples lent) ≡ ifUsed (c .control .used) samples lent (withVolumesApplied numbers c) = step-accepted n most volumes samples lent c refl t in
     let l = lowered-used (c .control .used) samples lent (withVolumesApplied numbers c) in
-    let is : step c (frame volumes samples lent) .state .control .channels ≡ loweredAll (l .lowering) given = ap (λ (s : Stepped). s .state .control .channels) next ∙ l .is in
+    let is : step c (frame most volumes samples lent) .state .control .channels ≡ loweredAll (l .lowering) given = ap (λ (s : Stepped). s .state .control .channels) next ∙ l .is in
     let count = length-given numbers (c .control .channels) in
-    let same = length-map volumes natAbs ∙ accepted-as n volumes samples lent t .count in
+    let same = length-map volumes natAbs ∙ accepted-as most volumes samples lent n t .count in
     record {
       lowering = l .lowering;
       off = l .off;

@@ -11,6 +11,7 @@ use lib.ListN.{length, replicate, getD-replicate, length-replicate}
 use Rattle.mono_input_volume_controller.specs.declared.mono.MonoInputVolumeController.{MonoInputVolumeController}
 use Rattle.mono_input_volume_controller.specs.SpeechLevel.{rmsErrorOf}
 use Rattle.mono_input_volume_controller.specs.Mono.{created}
+use Rattle.input_volume_controller.specs.declared.limits.Limits.{Limits}
 use Rattle.input_volume_controller.specs.declared.channels.ChannelCall.{ChannelCall}
 use Rattle.input_volume_controller.specs.declared.channels.ChannelCall.the-variants.{Initialize, CaptureOutputUsed, StreamAnalogLevel, Clipping, Process}
 use Rattle.input_volume_controller.specs.declared.channels.Aggregate.{Aggregate}
@@ -95,16 +96,17 @@ module _ (n : ℕ) where
   -- ---- the calls
 
   -- the numbers of a set of equal volumes
-  same-given : (volumes : List ℤ) (samples : ℕ) (lent : List Float) (c : Controller) → length (c .control .channels) ≡ n → EvenCall n (frame volumes samples lent) → Given Same volumes samples lent c
-  same-given volumes samples lent c e even numbers told t =
-      let all = even (subst (λ (k : ℕ). T (isAccepted k volumes samples lent)) e t) in
+  same-given : (most : Limits) (volumes : List ℤ) (samples : ℕ) (lent : List Float) (c : Controller) → length (c .control .channels) ≡ n → EvenCall n (frame most volumes samples lent)
+      → Given Same most volumes samples lent c
+  same-given most volumes samples lent c e even numbers told t =
+      let all = even (subst (λ (k : ℕ). T (isAccepted most k volumes samples lent)) e t) in
       record {
         number = natAbs (all .volume);
         all = equal-told volumes numbers (all .volume) (length volumes) told (all .equal) ∙ ap (λ (k : ℕ). replicate k (natAbs (all .volume))) (sym (length-told volumes numbers told));
       }
 
   given-by : (call : Call) (c : Controller) → AsOne n (c .control) → EvenCall n call → GivenBy Same call c
-  given-by (frame volumes samples lent) c a even = same-given volumes samples lent c (ap length (a .equal) ∙ length-replicate n (a .state)) even
+  given-by (frame most volumes samples lent) c a even = same-given most volumes samples lent c (ap length (a .equal) ∙ length-replicate n (a .state)) even
   given-by (recommendation probability level) c a even = tt
   given-by initialise c a even = tt
   given-by (captureSwitch on) c a even = tt

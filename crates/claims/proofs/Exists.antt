@@ -1,11 +1,12 @@
--- For all settings, every channel count and every predictor whose threshold silence does not pass there is a lead-in with exactly as many accepted frames as the claim asks: frames of silence. Assumes nothing.
+-- For all settings, every channel count, every entry that takes one sample for each channel and every predictor whose threshold silence does not pass there is a lead-in with exactly as many accepted frames as the
+-- claim asks: frames of silence. Assumes nothing.
 use mathlib.Core.Path.{_≡_, refl, sym, ap, _∙_, subst}
-use mathlib.Core.List.{List, [], _∷_, map}
+use mathlib.Core.List.{List, [], _∷_, _++_, map}
 use mathlib.Core.Bool.{Bool, true, false, not, cond, _&&_, _||_}
 use Prim.Native.Nat.{ℕ, zero, suc, _-_, _*_, _≤_, _<_}
 use native.Mathlib.Nat.{le-of-eq, not-suc-le-zero}
 use native.Mathlib.Omega.{arith}
-use lib.Dec.{T, leb, eqb, ltb, ltb→lt}
+use lib.Dec.{T, leb, eqb, ltb, ltb→lt, le→leb}
 use borrow.Author.Tests.{lt-leb}
 use lib.IntN.{ℤ, pos, negsuc}
 use lib.Signed.{ltZ, leZ}
@@ -26,13 +27,16 @@ use Rattle.clipping_predictor.specs.declared.settings.Settings as Predictor
 use Rattle.clipping_predictor.specs.Predictor.{partOf, levelsOf, frameFits}
 use Rattle.mono_input_volume_controller.specs.declared.speech_level.SpeechLevel.the-variants.{Absent}
 use Rattle.clipping_predictor_level_buffer.specs.Clipped.{oneIf}
+use Rattle.input_volume_controller.specs.declared.limits.Limits.{Limits}
 use Rattle.input_volume_controller.specs.Volumes.{Volumes, areNumbers, numbersOf}
+use Rattle.input_volume_controller.specs.Limits.{isWithin}
 use Rattle.input_volume_controller.specs.Calls.{Call, frame}
 use Rattle.input_volume_controller.proofs.SetNumbers.{equal-numbers}
 use Rattle.claims.specs.Past.{isAccepted}
-use Rattle.claims.specs.LeadIn.{all, acceptedBy, acceptedIn, isQuiet, quiet, isSound, comparedIn, isLow, quietFor, isCalm}
+use Rattle.claims.specs.LeadIn.{all, acceptedBy, acceptedIn, isQuiet, quiet, isSound, comparedIn, isLow, quietFor, isCalm, callsOf}
 use Rattle.claims.specs.TwoPasts.{enough, enoughFor}
-use Rattle.claims.specs.Sharp.{LeadInOf, silent, LeadInsExist}
+use Rattle.claims.specs.Every.{Every}
+use Rattle.claims.specs.Sharp.{Through, LeadInOf, TakesOneSample, silent, LeadInsExist}
 use Rattle.claims.proofs.Lists.{and-both, all-listed, is-true, map-replicate}
 use Rattle.claims.proofs.QuietSamples.{sound}
 
@@ -54,64 +58,76 @@ hundreds-numbers : (n : ℕ) → T (areNumbers (numbersOf (map pos (replicate n 
 unfolding withinOf
 hundreds-numbers n = subst (λ (s : Volumes). T (areNumbers s)) (sym (ap numbersOf (map-replicate pos n 100) ∙ equal-numbers (pos 100) 100 n refl)) tt
 
--- a frame of one sample of zero for each channel, each at the volume 100
-module _ (channels : ℕ) where
-  abbrev silence : List Float
-  silence = replicate channels plusZero
+-- a value of a kind, repeated before others of the kind
+every-before : {A : Type 0} (P : A → Type 0) (n : ℕ) (a : A) (rest : List A) → P a → Every P rest → Every P (replicate n a ++ rest)
+every-before P zero a rest p h = h
+every-before P (suc n) a rest p h = (p, every-before P n a rest p h)
 
-  abbrev hundreds : List ℕ
-  hundreds = replicate channels 100
+-- frames of one sample of zero for each channel, each at the volume 100
+abbrev silence : ℕ → List Float
+silence channels = replicate channels plusZero
 
+abbrev hundreds : ℕ → List ℕ
+hundreds channels = replicate channels 100
+
+silence-fits : (channels : ℕ) → T (frameFits channels 1 (silence channels))
+unfolding frameFits
+silence-fits channels = eq→eqb (length-replicate channels plusZero ∙ once channels)
+  where
+    once : (n : ℕ) → n ≡ n * 1
+    once n = omega arith
+
+-- through an entry that takes them
+module _ (most : Limits) (channels : ℕ) (takes : TakesOneSample most channels) where
   abbrev silentFrame : Call
-  silentFrame = frame (map pos hundreds) 1 silence
+  silentFrame = frame most (map pos (hundreds channels)) 1 (silence channels)
 
-  silence-fits : T (frameFits channels 1 silence)
-  unfolding frameFits
-  silence-fits = eq→eqb (length-replicate channels plusZero ∙ once channels)
-    where
-      once : (n : ℕ) → n ≡ n * 1
-      once n = omega arith
+  silence-within : T (isWithin most channels 1)
+  silence-within = and-both (leb channels (most .channels)) (leb 1 (most .samples)) (le→leb channels (most .channels) (takes .0)) (le→leb 1 (most .samples) (takes .1))
 
-  silence-accepted : T (isAccepted channels (map pos hundreds) 1 silence)
+  silence-accepted : T (isAccepted most channels (map pos (hundreds channels)) 1 (silence channels))
   unfolding isAccepted
   silence-accepted =
-      and-both (eqb (length (map pos hundreds)) channels) _ (eq→eqb (length-map hundreds pos ∙ length-replicate channels 100))
-      (and-both (areNumbers (numbersOf (map pos hundreds))) (frameFits channels 1 silence) (hundreds-numbers channels) silence-fits)
+      and-both (eqb (length (map pos (hundreds channels))) channels) _ (eq→eqb (length-map (hundreds channels) pos ∙ length-replicate channels 100))
+      (and-both (areNumbers (numbersOf (map pos (hundreds channels)))) _ (hundreds-numbers channels)
+      (and-both (frameFits channels 1 (silence channels)) (isWithin most channels 1) (silence-fits channels) silence-within))
 
   one-accepted : acceptedBy channels silentFrame ≡ 1
   unfolding acceptedBy
-  one-accepted = ap oneIf (is-true (isAccepted channels (map pos hundreds) 1 silence) silence-accepted)
+  one-accepted = ap oneIf (is-true (isAccepted most channels (map pos (hundreds channels)) 1 (silence channels)) silence-accepted)
 
--- ---- for every test that silence passes
+  -- ---- for every test that silence passes
 
-module _ (channels : ℕ) (isStill : ℕ → List Float → Bool) (passes : T (isStill 1 (silence channels))) where
-  silence-calm : T (isCalm channels isStill (silentFrame channels))
-  unfolding isCalm
-  silence-calm = or-right (not (isAccepted channels (map pos (hundreds channels)) 1 (silence channels))) (isStill 1 (silence channels)) passes
+  module _ (isStill : ℕ → List Float → Bool) (passes : T (isStill 1 (silence channels))) where
+    silence-calm : T (isCalm channels isStill silentFrame)
+    unfolding isCalm
+    silence-calm = or-right (not (isAccepted most channels (map pos (hundreds channels)) 1 (silence channels))) (isStill 1 (silence channels)) passes
 
-  silent-lead : (frames : ℕ) → LeadInOf channels isStill frames
-  unfolding all
-  silent-lead frames =
-      let exactly : acceptedIn channels (replicate frames (silentFrame channels)) ≡ frames = accepted-replicate channels frames (silentFrame channels) (one-accepted channels) in (
-        record {
-          body = replicate frames (silentFrame channels);
-          afterInitialise = [];
-          afterFrame = [];
-          afterRecommendation = [];
-          volumes = hundreds channels;
-          samples = 1;
-          lent = silence channels;
-          probability = plusZero;
-          level = Absent;
-          calm = all-replicate (isCalm channels isStill) frames (silentFrame channels) silence-calm;
-          long = le-of-eq (sym exactly);
-          accepted = silence-accepted channels;
-          still = passes;
-          positive = all-replicate (leb 1) channels 100 tt;
-          refused = tt;
-        },
-        exactly,
-      )
+    silent-lead : (frames : ℕ) → LeadInOf most channels isStill frames
+    unfolding all callsOf
+    silent-lead frames =
+        let exactly : acceptedIn channels (replicate frames silentFrame) ≡ frames = accepted-replicate channels frames silentFrame one-accepted in (
+          record {
+            body = replicate frames silentFrame;
+            afterInitialise = [];
+            afterFrame = [];
+            afterRecommendation = [];
+            most = most;
+            volumes = hundreds channels;
+            samples = 1;
+            lent = silence channels;
+            probability = plusZero;
+            level = Absent;
+            calm = all-replicate (isCalm channels isStill) frames silentFrame silence-calm;
+            long = le-of-eq (sym exactly);
+            accepted = silence-accepted;
+            still = passes;
+            positive = all-replicate (leb 1) channels 100 tt;
+            refused = tt;
+          },
+          exactly,
+          (tt, every-before (Through most) frames silentFrame _ refl (tt, (refl, (tt, tt)))),
+        )
 
 -- ---- silence
 
@@ -179,7 +195,7 @@ none-quiet p (suc channels) samples lent h t =
 -- THE CLAIM
 pub lead-ins-exist : LeadInsExist
 lead-ins-exist = record {
-  own = λ s channels. silent-lead channels quiet (silence-quiet channels) (enough s);
-  in-every-mode = λ p s channels h. silent-lead channels (quietFor p channels) (silence-low p channels h) (enoughFor p s);
+  own = λ s most channels takes. silent-lead most channels takes quiet (silence-quiet channels) (enough s);
+  in-every-mode = λ p s most channels takes h. silent-lead most channels takes (quietFor p channels) (silence-low p channels h) (enoughFor p s);
   none-below = none-quiet;
 }

@@ -6,15 +6,17 @@ use mathlib.Core.List.{List, [], _∷_, map}
 use Prim.Native.Nat.{ℕ, zero, suc, _≤_, _<_, max, zero-le}
 use native.Mathlib.Nat.{le-refl}
 use native.Mathlib.Omega.{arith}
-use lib.Dec.{ltb, eqb}
+use lib.Dec.{ltb}
 use borrow.Author.Tests.{ltb-true}
 use lib.Ieee.{Float, lt}
 use lib.ListN.{length, replicate, length-take, length-map, length-replicate}
+use Rattle.numbers.specs.declared.refusal.Outcome.{Outcome}
+use Rattle.numbers.specs.declared.refusal.Outcome.the-variants.{Accepted, Refused}
 use Rattle.clipping_predictor_level_buffer.specs.declared.level.Level.{Level}
 use Rattle.clipping_predictor.specs.declared.modes.Estimated.{Estimated}
 use Rattle.clipping_predictor.specs.declared.settings.Settings as Predictor
 use Rattle.clipping_predictor.specs.Estimate.{capacityOf}
-use Rattle.clipping_predictor.specs.Predictor.{levelsOf, pushEach, frameFits, enteredIf}
+use Rattle.clipping_predictor.specs.Predictor.{levelsOf, pushEach, enteredIf}
 use Rattle.mono_input_volume_controller.specs.declared.config.Settings.{Settings}
 use Rattle.mono_input_volume_controller.specs.declared.speech_level.SpeechLevel.{SpeechLevel}
 use Rattle.input_volume_controller.specs.declared.Applied.{Applied}
@@ -25,8 +27,8 @@ use Rattle.input_volume_controller.specs.Control.{Control}
 use Rattle.input_volume_controller.specs.ControlCalls.{aggregated, withAppliedInputVolumes, initialize, switchCapture, lowerChannels, processChannels}
 use Rattle.input_volume_controller.specs.Controller.{Controller, freshWith}
 use Rattle.clipping_predictor.specs.AllRings.{predictedBy}
-use Rattle.input_volume_controller.specs.Volumes.{Volumes, outsideSet, numberSet, numbersOf}
-use Rattle.input_volume_controller.specs.Frame.{askedOf, handleIf, unlessWaiting, ifUsed, unlessRefused, analyzeInputAudio}
+use Rattle.input_volume_controller.specs.Volumes.{numbersOf, numbersIn}
+use Rattle.input_volume_controller.specs.Frame.{askedOf, handleIf, withVolumesApplied, frameOutcome, unlessWaiting, ifUsed, unlessRefused, analyzeInputAudio}
 use Rattle.input_volume_controller.specs.Recommendation.{recommendIf, unlessNone, recommendInputVolume}
 use Rattle.input_volume_controller.specs.Calls.{Call, frame, recommendation, initialise, captureSwitch, step, after}
 use Rattle.claims.proofs.Lists.{map-replicate}
@@ -157,12 +159,10 @@ module _ (p : Predictor.Settings) (s : Settings) (n : ℕ) where
       (ltb-true (c .control .since) (c .control .settings .«clipped_wait»)) (kept-entered samples lent c k)
   kept-used false samples lent c k = k
 
-  kept-frame : (counted : Bool) (volumes : Volumes) (fits : Bool) (samples : ℕ) (lent : List Float) (c : Controller) → K c → K (unlessRefused counted volumes fits samples lent c .state)
-  kept-frame false volumes fits samples lent c k = k
-  kept-frame true outsideSet fits samples lent c k = k
-  kept-frame true (numberSet volumes) false samples lent c k = k
-  kept-frame true (numberSet volumes) true samples lent c k =
-      kept-used (c .control .used) samples lent (record { control = withAppliedInputVolumes volumes (c .control); predictor = c .predictor })
+  kept-frame : (o : Outcome) (volumes : List ℕ) (samples : ℕ) (lent : List Float) (c : Controller) → K c → K (unlessRefused o volumes samples lent c .state)
+  kept-frame (Refused cause) volumes samples lent c k = k
+  kept-frame Accepted volumes samples lent c k =
+      kept-used (c .control .used) samples lent (withVolumesApplied volumes c)
       (with-control (withAppliedInputVolumes volumes (c .control)) c (kept-applied s n volumes (c .control) (k .control)) k)
 
   kept-recommended : (t : Bool) (applied : ℕ) (probability : Float) (level : SpeechLevel) (c : Controller) → K c → K (recommendIf t applied probability level c .state)
@@ -177,8 +177,7 @@ module _ (p : Predictor.Settings) (s : Settings) (n : ℕ) where
 
   pub kept-step : (call : Call) (c : Controller) → K c → K (step c call .state)
   unfolding analyzeInputAudio recommendInputVolume
-  kept-step (frame volumes samples lent) c k =
-      kept-frame (eqb (length volumes) (length (c .control .channels))) (numbersOf volumes) (frameFits (length (c .control .channels)) samples lent) samples lent c k
+  kept-step (frame most volumes samples lent) c k = kept-frame (frameOutcome most (length (c .control .channels)) volumes samples lent) (numbersIn (numbersOf volumes)) samples lent c k
   kept-step (recommendation probability level) c k = kept-asked (c .control .applied) probability level c k
   kept-step initialise c k = with-control _ c (kept-initialize s n (c .control) (k .control)) k
   kept-step (captureSwitch on) c k = with-control _ c (kept-switch s n on (c .control) (k .control)) k

@@ -3,6 +3,9 @@ pub mod Run
 pub mod Causes
 pub mod BelowMaking
 pub mod Making
+pub mod Lists
+pub mod Outcomes
+pub mod Accepted
 pub mod Refused
 pub mod BelowEstimates
 pub mod Below
@@ -29,7 +32,6 @@ pub mod UnmarkedFrame
 pub mod UnmarkedRun
 pub mod GainTable
 pub mod Starred
-pub mod Lists
 pub mod Cores
 pub mod Sets
 pub mod Kept
@@ -66,7 +68,7 @@ pub mod OneVolume
 pub mod EachTakesItsOwn
 pub mod LowestIsApplied
 pub mod Controlling
-pub mod Accepted
+pub mod ShortFrames
 pub mod Needed
 pub mod ExampleLines
 pub mod Claims

@@ -30,8 +30,8 @@ record DoesAs (c : Agc2Controller) (call : Call) (says : Numbers) (d : Agc2Contr
   numbers : says ≡ inNumbers call reply
 
 does-as : {c d : Agc2Controller} {call : Call} {says : Numbers} → Good (wholeOf c) → LibraryCall c call says d → DoesAs c call says d
-does-as good (framed {c = c} {volumes = volumes} {samples = samples} {lent = lent} h) = record {
-  reply = step (viewOf (wholeOf c)) (frame volumes samples lent) .reply;
+does-as good (framed {c = c} {most = most} {volumes = volumes} {samples = samples} {lent = lent} h) = record {
+  reply = step (viewOf (wholeOf c)) (frame most volumes samples lent) .reply;
   does = record { good = h .becomes .good; typed = h .typed; reply = refl; view = h .becomes .is };
   numbers = λ i. ofFrame (record { refusal = h .refusal i; near = h .near i });
 }

@@ -23,7 +23,8 @@ use Rattle.input_volume_controller.specs.Calls.{frame, recommendation, step}
 use Rattle.input_volume_controller.proofs.SetNumbers.{told-set}
 use Rattle.claims.specs.LowestIsApplied.{LowestIsApplied}
 use Rattle.claims.proofs.Walk.{Hears, if-used}
-use Rattle.claims.proofs.Runs.{accepted-as, step-accepted}
+use Rattle.claims.proofs.Outcomes.{accepted-as}
+use Rattle.claims.proofs.Runs.{step-accepted}
 
 -- ---- the lowest of a list
 
@@ -81,15 +82,15 @@ repeated c low e off probability level =
 -- THE CLAIM
 pub lowest-is-applied : LowestIsApplied
 unfolding withAppliedInputVolumes aggregated
-lowest-is-applied c volumes samples lent some t =
+lowest-is-applied c most volumes samples lent some t =
     let n = length (c .control .channels) in
-    let a = accepted-as n volumes samples lent t in
+    let a = accepted-as most volumes samples lent n t in
     let numbers = map natAbs volumes in
-    let next = step c (frame volumes samples lent) .state in
+    let next = step c (frame most volumes samples lent) .state in
     let count = length-map volumes natAbs in
     let low = lowestOf numbers in
     let pending : Pending low (next .control) =
-    subst (λ (s : Stepped). Pending low (s .state .control)) (sym (step-accepted n volumes samples lent c refl t))
+    subst (λ (s : Stepped). Pending low (s .state .control)) (sym (step-accepted n most volumes samples lent c refl t))
     (if-used (Pending low) (pending-on low) (c .control .used) samples lent (withVolumesApplied numbers c) refl) in
     let l = lowest-of numbers (omega (arith, some, count, a .count)) in
     record {

@@ -4,11 +4,12 @@ use mathlib.Core.Logic.{_↔_}
 use mathlib.Core.Bool.{Bool, true, false}
 use mathlib.Core.List.{List, [], _∷_, map, foldl}
 use Prim.Native.Nat.{ℕ, max}
-use lib.Dec.{T, ltb, eqb}
+use lib.Dec.{T, ltb}
 use lib.IntN.{pos}
 use lib.Ieee.{Float, lt, le, add, mul, div, ofInt, ofBits}
 use lib.ListN.{length}
-use borrow.Author.Tests.{eq-eqb}
+use Rattle.numbers.specs.declared.refusal.Outcome.{Outcome}
+use Rattle.numbers.specs.declared.refusal.Outcome.the-variants.{Accepted}
 use Rattle.numbers.specs.First.{first}
 use Rattle.numbers.specs.Listed.{listed}
 use Rattle.numbers.specs.Natural.{withinOf}
@@ -39,20 +40,21 @@ use Rattle.input_volume_controller.specs.declared.Applied.the-variants.{Nothing
 use Rattle.clipping_predictor_level_buffer.specs.Clipped.{countOf, clippedIn, total}
 use Rattle.clipping_predictor.specs.MostClipped.{mostClipped}
 use Rattle.input_volume_controller.specs.ClippedRatio.{clippedRatio}
-use Rattle.input_volume_controller.specs.Volumes.{Volumes, numberSet, numbersOf, lowestOf}
+use Rattle.input_volume_controller.specs.declared.limits.Limits.{Limits}
+use Rattle.input_volume_controller.specs.Volumes.{numbersOf, numbersIn, lowestOf}
 use Rattle.input_volume_controller.specs.Channels.{called, eachGiven, aggregateOf}
 use Rattle.input_volume_controller.specs.ControlCalls.{withAppliedInputVolumes, lowerChannels}
 use Rattle.input_volume_controller.specs.Controller.{Controller}
 use Rattle.input_volume_controller.specs.Differ.{otherVolumes, lowerDifferently, differ}
 use Rattle.input_volume_controller.specs.Reply.{Reply, mark, refusal, volume, none, done, Stepped}
-use Rattle.input_volume_controller.specs.Frame.{askedOf, returnedBy, unlessWaitingBy, ifUsedBy, unlessRefusedBy, unlessWaiting, ifUsed, unlessRefused, withVolumesApplied, analyzeInputAudio}
+use Rattle.input_volume_controller.specs.Frame.{askedOf, returnedBy, unlessWaitingBy, ifUsedBy, unlessRefusedBy, unlessWaiting, ifUsed, unlessRefused, withVolumesApplied, frameOutcome, analyzeInputAudio}
 use Rattle.input_volume_controller.specs.Recommendation.{recommendIf, unlessNone, recommendInputVolume}
 use Rattle.input_volume_controller.specs.Calls.{after, step, frame, recommendation}
 use Rattle.input_volume_controller.proofs.SetNumbers.{numbers-back}
 use Rattle.input_volume_controller.proofs.Marks.{is-mark, handled-marked}
 use Rattle.claims.specs.Past.{isAccepted}
 use Rattle.claims.specs.Marked.{MayEstimate, EstimateMatters, predictedAs, frameWith, FrameMatters, replyAfter, replyToSilence, MarkedExactly}
-use Rattle.claims.proofs.Runs.{accepted-as}
+use Rattle.claims.proofs.Outcomes.{outcome-is, accepted-as}
 use Rattle.claims.proofs.MayEstimate.{may-same}
 
 -- ---- an estimate
@@ -110,28 +112,29 @@ used-marked true samples lent c =
     (record { control = c .control; predictor = enteredIf true samples lent (c .predictor) })
 used-marked false samples lent c = unmarked (ifUsed false samples lent c) _ _ refl (λ drops. refl)
 
-module _ (volumes : List ℕ) (samples : ℕ) (lent : List Float) (c : Controller) where
+module _ (most : Limits) (volumes : List ℕ) (samples : ℕ) (lent : List Float) (c : Controller) where
   abbrev May : List ℕ → Type 0
   May = MayPredict (askedOf (withAppliedInputVolumes volumes (c .control))) (enteredIf true samples lent (c .predictor))
 
   -- by a frame's tests
-  abbrev MarkedBy : Bool → Volumes → Bool → Type 0
-  MarkedBy counted v fits = MarkedIf (unlessRefused counted v fits samples lent c) May (λ (drops : List ℕ). unlessRefusedBy (predictedAs drops) counted v fits samples lent c)
+  abbrev MarkedBy : Outcome → List ℕ → Type 0
+  MarkedBy o v = MarkedIf (unlessRefused o v samples lent c) May (λ (drops : List ℕ). unlessRefusedBy (predictedAs drops) o v samples lent c)
 
-  accepted-marked : (counted : Bool) (v : Volumes) (fits : Bool) → counted ≡ true → v ≡ numberSet volumes → fits ≡ true → MarkedBy counted v fits
-  accepted-marked counted v fits a e f =
-      subst (λ (counted : Bool). MarkedBy counted v fits) (sym a)
-      (subst (λ (v : Volumes). MarkedBy true v fits) (sym e) (subst (λ (fits : Bool). MarkedBy true (numberSet volumes) fits) (sym f) (used-marked (c .control .used) samples lent (withVolumesApplied volumes c))))
+  accepted-marked : (o : Outcome) (v : List ℕ) → o ≡ Accepted → v ≡ volumes → MarkedBy o v
+  accepted-marked o v a e =
+      subst (λ (o : Outcome). MarkedBy o v) (sym a) (subst (λ (v : List ℕ). MarkedBy Accepted v) (sym e) (used-marked (c .control .used) samples lent (withVolumesApplied volumes c)))
 
-  frame-marked : T (isAccepted (length (c .control .channels)) (map pos volumes) samples lent)
-      → MarkedIf (step c (frame (map pos volumes) samples lent)) May (λ (drops : List ℕ). frameWith drops (map pos volumes) samples lent c)
+  frame-marked : T (isAccepted most (length (c .control .channels)) (map pos volumes) samples lent)
+      → MarkedIf (step c (frame most (map pos volumes) samples lent)) May (λ (drops : List ℕ). frameWith drops most (map pos volumes) samples lent c)
   unfolding analyzeInputAudio
   frame-marked t =
       let n = length (c .control .channels) in
-      let a = accepted-as n (map pos volumes) samples lent t in
-      accepted-marked (eqb (length (map pos volumes)) n) (numbersOf (map pos volumes)) (frameFits n samples lent) (eq-eqb (length (map pos volumes)) n (a .count)) (a .numbers ∙ ap numberSet (numbers-back volumes)) (a .fits)
+      let a = accepted-as most (map pos volumes) samples lent n t in
+      accepted-marked (frameOutcome most n (map pos volumes) samples lent) (numbersIn (numbersOf (map pos volumes))) (outcome-is most (map pos volumes) samples lent {n = n} refl t)
+      (ap numbersIn (a .numbers) ∙ numbers-back volumes)
 
-  frames-marked : T (isAccepted (length (c .control .channels)) (map pos volumes) samples lent) → (step c (frame (map pos volumes) samples lent) .reply ≡ mark true) ↔ FrameMatters c volumes samples lent
+  frames-marked : T (isAccepted most (length (c .control .channels)) (map pos volumes) samples lent)
+      → (step c (frame most (map pos volumes) samples lent) .reply ≡ mark true) ↔ FrameMatters c most volumes samples lent
   frames-marked t =
       let m = frame-marked t in (
         λ e. let k = m .changes e in record { drops = k .0; may = k .1; changes = k .2 },
@@ -179,8 +182,8 @@ computed = record { at-six = refl; at-seven = refl; missing = refl; alike = refl
 pub marked-exactly : MarkedExactly
 marked-exactly = record {
   estimate = estimate-marked;
-  frames = λ c volumes samples lent t. frames-marked volumes samples lent c t;
-  answered = λ c volumes samples lent t. let m = frame-marked volumes samples lent c t in (m .near, m .is);
+  frames = λ c most volumes samples lent t. frames-marked most volumes samples lent c t;
+  answered = λ c most volumes samples lent t. let m = frame-marked most volumes samples lent c t in (m .near, m .is);
   recommendations = never-marked;
   one-marked = computed .at-six;
   one-unmarked = computed .at-seven;

@@ -33,6 +33,7 @@ use Rattle.mono_input_volume_controller.specs.Mono.{isUsers}
 use Rattle.mono_input_volume_controller.specs.Config.{defaults, settingsFrom, settingsOf}
 use Rattle.input_volume_controller.specs.Channels.{called, eachGiven, aggregateOf}
 use Rattle.input_volume_controller.specs.Volumes.{numbersOf, lowestOf}
+use Rattle.input_volume_controller.specs.Limits.{plainLimits}
 use Rattle.input_volume_controller.specs.ControlCalls.{withAppliedInputVolumes, initialize, lowerChannels}
 use Rattle.input_volume_controller.specs.Controller.{fresh}
 use Rattle.input_volume_controller.specs.Frame.{analyzeInputAudio}
@@ -63,6 +64,7 @@ lead = record {
   afterInitialise = [];
   afterFrame = [];
   afterRecommendation = [];
+  most = plainLimits;
   volumes = 255 ∷ [];
   samples = 1;
   lent = plusZero ∷ [];
@@ -78,7 +80,7 @@ lead = record {
 
 -- the same of two channels
 stillTwo : ℕ → Call
-stillTwo volume = frame (pos volume ∷ pos volume ∷ []) 1 (plusZero ∷ plusZero ∷ [])
+stillTwo volume = frame plainLimits (pos volume ∷ pos volume ∷ []) 1 (plusZero ∷ plusZero ∷ [])
 
 pair : LeadIn 2 quiet (enough settings)
 unfolding stillTwo settingsFrom withinOf numbersOf frameFits all isAccepted acceptedBy acceptedIn isQuiet quiet isCalm ofInt le eq
@@ -87,6 +89,7 @@ pair = record {
   afterInitialise = [];
   afterFrame = [];
   afterRecommendation = [];
+  most = plainLimits;
   volumes = 255 ∷ 255 ∷ [];
   samples = 1;
   lent = plusZero ∷ plusZero ∷ [];

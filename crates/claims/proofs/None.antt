@@ -5,13 +5,13 @@ use mathlib.Core.Logic.{_↔_}
 use mathlib.Core.List.{List, _∷_, reverse}
 use Prim.Native.Nat.{ℕ}
 use native.Mathlib.Omega.{arith}
-use lib.Dec.{eqb}
 use lib.Ieee.{Float}
 use lib.ListN.{length, length-replicate}
+use Rattle.numbers.specs.declared.refusal.Outcome.{Outcome}
+use Rattle.numbers.specs.declared.refusal.Outcome.the-variants.{Accepted, Refused}
 use Rattle.numbers.proofs.Truths.{and-false}
 use Rattle.numbers.proofs.Signs.{clash}
 use Rattle.clipping_predictor.specs.declared.settings.Settings as Predictor
-use Rattle.clipping_predictor.specs.Predictor.{frameFits}
 use Rattle.mono_input_volume_controller.specs.declared.config.Settings.{Settings}
 use Rattle.mono_input_volume_controller.specs.declared.speech_level.SpeechLevel.{SpeechLevel}
 use Rattle.input_volume_controller.specs.declared.Applied.{Applied}
@@ -22,12 +22,13 @@ use Rattle.input_volume_controller.specs.Plain.{isPending}
 use Rattle.input_volume_controller.specs.ControlCalls.{aggregated, withAppliedInputVolumes, initialize, lowerChannels}
 use Rattle.input_volume_controller.specs.Controller.{Controller, freshWith}
 use Rattle.input_volume_controller.specs.Reply.{none}
-use Rattle.input_volume_controller.specs.Volumes.{Volumes, outsideSet, numberSet, areNumbers, numbersOf}
-use Rattle.input_volume_controller.specs.Frame.{unlessRefused, analyzeInputAudio}
+use Rattle.input_volume_controller.specs.Volumes.{numbersOf, numbersIn}
+use Rattle.input_volume_controller.specs.Frame.{withVolumesApplied, frameOutcome, unlessRefused, analyzeInputAudio}
 use Rattle.input_volume_controller.specs.Recommendation.{recommendIf, unlessNone, recommendInputVolume}
 use Rattle.input_volume_controller.specs.Calls.{Call, frame, recommendation, initialise, captureSwitch, step, after}
-use Rattle.claims.specs.Past.{captureOn, isAccepted}
+use Rattle.claims.specs.Past.{captureOn}
 use Rattle.claims.specs.None.{frameSince, NoneExactly}
+use Rattle.claims.proofs.Outcomes.{isTaken, accepted-is}
 use Rattle.claims.proofs.Walk.{Hears, if-used}
 use Rattle.claims.proofs.Capture.{Open, open-next}
 use Rattle.claims.proofs.Newest.{from-newest}
@@ -45,13 +46,10 @@ applied-waits : (v : List ℕ) (c : Control) → Pending true (withAppliedInputV
 unfolding withAppliedInputVolumes aggregated
 applied-waits v c = refl
 
-frame-waits : (counted : Bool) (v : Volumes) (fits waiting : Bool) (samples : ℕ) (lent : List Float) (c : Controller) → Pending waiting (c .control)
-    → Pending ((counted && (areNumbers v && fits)) || waiting) (unlessRefused counted v fits samples lent c .state .control)
-frame-waits false v fits waiting samples lent c h = h
-frame-waits true outsideSet fits waiting samples lent c h = h
-frame-waits true (numberSet n) false waiting samples lent c h = h
-frame-waits true (numberSet n) true waiting samples lent c h =
-    if-used (Pending true) waits-on (c .control .used) samples lent (record { control = withAppliedInputVolumes n (c .control); predictor = c .predictor }) (applied-waits n (c .control))
+frame-waits : (o : Outcome) (volumes : List ℕ) (waiting : Bool) (samples : ℕ) (lent : List Float) (c : Controller) → Pending waiting (c .control)
+    → Pending (isTaken o || waiting) (unlessRefused o volumes samples lent c .state .control)
+frame-waits (Refused cause) volumes waiting samples lent c h = h
+frame-waits Accepted volumes waiting samples lent c h = if-used (Pending true) waits-on (c .control .used) samples lent (withVolumesApplied volumes c) (applied-waits volumes (c .control))
 
 -- ---- a recommendation
 
@@ -76,10 +74,10 @@ record Told (count : ℕ) (past : List Call) (c : Controller) : Type 0 where
   pending : Pending (frameSince count past) (c .control)
 
 waits-next : (count : ℕ) (call : Call) (past : List Call) (c : Controller) → Told count past c → Pending (frameSince count (call ∷ past)) (step c call .state .control)
-unfolding frameSince isAccepted analyzeInputAudio recommendInputVolume initialize aggregated
-waits-next count (frame v samples lent) past c h =
-    subst (λ (n : ℕ). Pending ((eqb (length v) n && (areNumbers (numbersOf v) && frameFits n samples lent)) || frameSince count past) (step c (frame v samples lent) .state .control)) (h .capture .channels)
-    (frame-waits (eqb (length v) (length (c .control .channels))) (numbersOf v) (frameFits (length (c .control .channels)) samples lent) (frameSince count past) samples lent c (h .pending))
+unfolding frameSince analyzeInputAudio recommendInputVolume initialize aggregated
+waits-next count (frame most v samples lent) past c h =
+    subst (λ (accepted : Bool). Pending (accepted || frameSince count past) (step c (frame most v samples lent) .state .control)) (accepted-is most v samples lent (h .capture .channels))
+    (frame-waits (frameOutcome most (length (c .control .channels)) v samples lent) (numbersIn (numbersOf v)) (frameSince count past) samples lent c (h .pending))
 waits-next count (recommendation probability level) past c h =
     subst (λ (t : Bool). Pending (not t && frameSince count past) (step c (recommendation probability level) .state .control)) (h .capture .used)
     (recommendation-waits (c .control .applied) (frameSince count past) probability level c refl (h .pending))

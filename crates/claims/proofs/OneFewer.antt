@@ -15,6 +15,7 @@ use Rattle.input_volume_controller.specs.declared.Applied.the-variants.{Nothing
 use Rattle.mono_input_volume_controller.specs.Config.{defaults, settingsFrom}
 use Rattle.mono_input_volume_controller.specs.Mono.{created}
 use Rattle.input_volume_controller.specs.Volumes.{numbersOf}
+use Rattle.input_volume_controller.specs.Limits.{plainLimits}
 use Rattle.input_volume_controller.specs.ControlCalls.{aggregated, withAppliedInputVolumes}
 use Rattle.input_volume_controller.specs.Controller.{Controller}
 use Rattle.input_volume_controller.specs.Frame.{analyzeInputAudio}
@@ -42,7 +43,7 @@ waiting before = record {
 
 -- a frame of one sample, 0
 abbrev silence : List Call
-silence = frame (pos 100 ∷ []) 1 (fin false 0 (pos 0) ∷ []) ∷ []
+silence = frame plainLimits (pos 100 ∷ []) 1 (fin false 0 (pos 0) ∷ []) ∷ []
 
 -- delay + reference is 2, and one frame is accepted
 pub one-frame : (before : Level) → length (framesOf (waiting before) silence) ≡ 1

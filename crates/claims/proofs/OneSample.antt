@@ -5,13 +5,14 @@ use Prim.Native.Nat.{ℕ}
 use lib.IntN.{pos}
 use lib.Ieee.{fin}
 use Rattle.clipping_predictor_level_buffer.specs.Statistics.{plusZero}
+use Rattle.input_volume_controller.specs.Limits.{plainLimits}
 use Rattle.input_volume_controller.specs.Calls.{Call, frame}
 
 abbrev pub still : ℕ → Call
-still volume = frame (pos volume ∷ []) 1 (plusZero ∷ [])
+still volume = frame plainLimits (pos volume ∷ []) 1 (plusZero ∷ [])
 
 abbrev pub loud : ℕ → Call
-loud volume = frame (pos volume ∷ []) 1 (fin false 1875 (pos 4) ∷ [])
+loud volume = frame plainLimits (pos volume ∷ []) 1 (fin false 1875 (pos 4) ∷ [])
 
 abbrev pub clipped : ℕ → Call
-clipped volume = frame (pos volume ∷ []) 1 (fin false 32767 (pos 0) ∷ [])
+clipped volume = frame plainLimits (pos volume ∷ []) 1 (fin false 32767 (pos 0) ∷ [])

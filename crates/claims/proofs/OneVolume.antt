@@ -12,17 +12,20 @@ use borrow.Author.Tests.{eq-eqb}
 use Rattle.numbers.specs.declared.natural.Natural.{Natural}
 use Rattle.numbers.specs.declared.natural.Natural.the-variants.{Number, Outside}
 use Rattle.numbers.specs.Natural.{withinOf}
-use Rattle.clipping_predictor.specs.Predictor.{frameFits}
+use Rattle.clipping_predictor.specs.Predictor.{maxChannels, frameFits}
 use Rattle.mono_input_volume_controller.specs.MonoState.{maxInputVolume}
 use Rattle.input_volume_controller.specs.declared.Applied.the-variants.{Volume}
-use Rattle.input_volume_controller.specs.Volumes.{equalVolumes, Volumes, numberSet, numbersOf, lowestFrom, lowestOf}
+use Rattle.input_volume_controller.specs.Volumes.{equalVolumes, Volumes, numberSet, areNumbers, numbersOf, numbersIn, lowestFrom, lowestOf}
+use Rattle.input_volume_controller.specs.Limits.{plainLimits, isWithin}
 use Rattle.input_volume_controller.specs.Control.{Control, withApplied, withChannels}
 use Rattle.input_volume_controller.specs.ControlCalls.{aggregated, withAppliedInputVolumes}
 use Rattle.input_volume_controller.specs.Controller.{Controller}
-use Rattle.input_volume_controller.specs.Frame.{ifUsed, unlessRefused, analyzeInputAudio}
+use Rattle.input_volume_controller.specs.Reply.{Stepped}
+use Rattle.input_volume_controller.specs.Frame.{testedAs, ifUsed, unlessRefused, analyzeInputAudio}
 use Rattle.input_volume_controller.proofs.Sets.{equal-outside}
 use Rattle.input_volume_controller.proofs.SetNumbers.{equal-numbers}
 use Rattle.claims.specs.OneVolume.{withAppliedInputVolume, unlessOneRefused, analyzeWithOneVolume, OneVolume}
+use Rattle.claims.proofs.Outcomes.{plain-within}
 use Rattle.claims.proofs.Sets.{given-all}
 
 -- ---- the channels
@@ -46,23 +49,32 @@ applied-equal v c h = λ i. aggregated (withApplied (Volume (lowest-of-equal v (
 
 -- ---- the frame
 
-fits-if : (v : ℕ) (fits : Bool) (samples : ℕ) (lent : List Float) (c : Controller) → 1 ≤ length (c .control .channels)
-    → unlessRefused true (numberSet (replicate (length (c .control .channels)) v)) fits samples lent c ≡ unlessOneRefused (Number v) fits samples lent c
-fits-if v false samples lent c h = refl
-fits-if v true samples lent c h = ap (λ (d : Control). ifUsed (c .control .used) samples lent (record { control = d; predictor = c .predictor })) (applied-equal v (c .control) h)
+module _ (samples : ℕ) (lent : List Float) (c : Controller) (low : 1 ≤ length (c .control .channels)) (high : length (c .control .channels) ≤ maxChannels) where
+  abbrev n : ℕ
+  n = length (c .control .channels)
 
-framed : (volume : ℤ) (v : Natural) → withinOf 0 maxInputVolume volume ≡ v → (fits : Bool) (samples : ℕ) (lent : List Float) (c : Controller) → 1 ≤ length (c .control .channels)
-    → unlessRefused true (numbersOf (equalVolumes volume (length (c .control .channels)))) fits samples lent c ≡ unlessOneRefused v fits samples lent c
-framed volume Outside e fits samples lent c h =
-    let n = length (c .control .channels) in
-    ap (λ (s : Volumes). unlessRefused true s fits samples lent c) (sym (equal-outside volume n (omega (arith, h, length-replicate n volume)) e))
-framed volume (Number v) e fits samples lent c h = ap (λ (s : Volumes). unlessRefused true s fits samples lent c) (equal-numbers volume v (length (c .control .channels)) e) ∙ fits-if v fits samples lent c h
+  -- by the tests that are left for these volumes
+  abbrev heard : Volumes → Bool → Stepped
+  heard volumes fits = unlessRefused (testedAs true (areNumbers volumes) fits (isWithin plainLimits n samples)) (numbersIn volumes) samples lent c
+
+  fits-if : (v : ℕ) (fits : Bool) → frameFits n samples lent ≡ fits → heard (numberSet (replicate n v)) fits ≡ unlessOneRefused (Number v) fits samples lent c
+  fits-if v false e = refl
+  fits-if v true e =
+      ap (λ (within : Bool). unlessRefused (testedAs true true true within) (replicate n v) samples lent c) (plain-within n samples lent high e)
+      ∙ ap (λ (d : Control). ifUsed (c .control .used) samples lent (record { control = d; predictor = c .predictor })) (applied-equal v (c .control) low)
+
+  framed : (volume : ℤ) (v : Natural) → withinOf 0 maxInputVolume volume ≡ v → (fits : Bool) → frameFits n samples lent ≡ fits
+      → heard (numbersOf (equalVolumes volume n)) fits ≡ unlessOneRefused v fits samples lent c
+  framed volume Outside e fits f = ap (λ (s : Volumes). heard s fits) (sym (equal-outside volume n (omega (arith, low, length-replicate n volume)) e))
+  framed volume (Number v) e fits f = ap (λ (s : Volumes). heard s fits) (equal-numbers volume v n e) ∙ fits-if v fits f
 
 -- THE CLAIM
 pub one-volume : OneVolume
 unfolding analyzeInputAudio analyzeWithOneVolume
-one-volume c volume samples lent h =
+one-volume c volume samples lent low high =
     let n = length (c .control .channels) in
+    let volumes = equalVolumes volume n in
     let fits = frameFits n samples lent in
-    ap (λ (counted : Bool). unlessRefused counted (numbersOf (equalVolumes volume n)) fits samples lent c) (eq-eqb (length (equalVolumes volume n)) n (length-replicate n volume))
-    ∙ framed volume (withinOf 0 maxInputVolume volume) refl fits samples lent c h
+    ap (λ (counted : Bool). unlessRefused (testedAs counted (areNumbers (numbersOf volumes)) fits (isWithin plainLimits n samples)) (numbersIn (numbersOf volumes)) samples lent c)
+    (eq-eqb (length volumes) n (length-replicate n volume))
+    ∙ framed samples lent c low high volume (withinOf 0 maxInputVolume volume) refl fits refl

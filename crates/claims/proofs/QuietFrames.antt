@@ -8,6 +8,7 @@ use lib.Dec.{T, ltb}
 use lib.Ieee.{Float, le}
 use lib.ListN.{length, take}
 use borrow.Author.Tests.{ltb-true, ltb-false}
+use Rattle.numbers.specs.declared.refusal.Outcome.the-variants.{Accepted}
 use Rattle.numbers.proofs.Listed.{length-listed}
 use Rattle.clipping_predictor_level_buffer.specs.declared.level.Level.{Level}
 use Rattle.clipping_predictor_level_buffer.specs.Level.{frameRecord}
@@ -21,7 +22,6 @@ use Rattle.input_volume_controller.specs.ControlCalls.{aggregated, withAppliedI
 use Rattle.input_volume_controller.specs.Controller.{Controller}
 use Rattle.input_volume_controller.specs.Reply.{Stepped}
 use Rattle.clipping_predictor.specs.AllRings.{predictedBy}
-use Rattle.input_volume_controller.specs.Volumes.{numberSet}
 use Rattle.input_volume_controller.specs.Frame.{askedOf, handleIf, unlessWaiting, ifUsed, unlessRefused}
 use Rattle.claims.specs.LeadIn.{all, isSound, isLow, quietFor}
 use Rattle.claims.proofs.Lists.{and-l, and-r}
@@ -47,7 +47,7 @@ waited false wait c f g z = ap (λ (x : ℕ). handleIf (ltb 0 x) (max (c .contro
 module _ (p : Predictor.Settings) (s : Settings) (n : ℕ) (window : 1 ≤ p .window) (ratio : T (le plusZero (s .«clipped_ratio»))) (volumes : List ℕ) (samples : ℕ) (lent : List Float) where
   -- what such a frame does: its levels enter, and then it counts, or is tested
   frame-on : (c : Controller) → Kept p s n c → c .control .used ≡ true → T (all isSound lent)
-      → unlessRefused true (numberSet volumes) true samples lent c ≡ unlessWaiting (ltb (c .control .since) (c .control .settings .«clipped_wait»)) false (entered volumes samples lent c)
+      → unlessRefused Accepted volumes samples lent c ≡ unlessWaiting (ltb (c .control .since) (c .control .settings .«clipped_wait»)) false (entered volumes samples lent c)
   unfolding withAppliedInputVolumes aggregated
   frame-on c k u t =
       ap (λ (b : Bool). ifUsed b samples lent (record { control = withAppliedInputVolumes volumes (c .control); predictor = c .predictor })) u
@@ -73,7 +73,7 @@ module _ (p : Predictor.Settings) (s : Settings) (n : ℕ) (window : 1 ≤ p .wi
         (match-push (isLow p) (capacityOf p) (h .m) k (levelsOf n samples lent) (c .predictor .rings) grown
         (length-listed (λ i. frameRecord (partOf samples lent i)) n ∙ sym (b .count)) low (h .rows))
 
-    pub led-frame : Led p s (grow (levelsOf n samples lent) grown) (suc k) (unlessRefused true (numberSet volumes) true samples lent c .state)
+    pub led-frame : Led p s (grow (levelsOf n samples lent) grown) (suc k) (unlessRefused Accepted volumes samples lent c .state)
     unfolding withAppliedInputVolumes aggregated
     led-frame =
         subst (λ (r : Stepped). Led p s (grow (levelsOf n samples lent) grown) (suc k) (r .state)) (sym (frame-on c b (h .on) sound))
@@ -88,7 +88,7 @@ module _ (p : Predictor.Settings) (s : Settings) (n : ℕ) (window : 1 ≤ p .wi
 
     -- where the count is at most one short of the wait, and the window is all quiet
     pub quiet-frame : p .window ≤ suc k → s .«clipped_wait» ≤ suc (c .control .since)
-        → unlessRefused true (numberSet volumes) true samples lent c .state ≡ counting (s .«clipped_wait») (entered volumes samples lent c)
+        → unlessRefused Accepted volumes samples lent c .state ≡ counting (s .«clipped_wait») (entered volumes samples lent c)
     unfolding withAppliedInputVolumes aggregated
     quiet-frame w e =
         let since = c .control .since in

@@ -2,12 +2,15 @@
 use mathlib.Core.Path.{_≡_, refl, sym, ap, _∙_}
 use mathlib.Core.Bool.{Bool, true, false, not}
 use mathlib.Core.List.{List}
-use mathlib.Core.Option.{none, some}
+use mathlib.Core.Option.{Option, none, some}
 use Prim.Native.Nat.{ℕ}
 use native.Mathlib.Omega.{arith}
 use lib.Dec.{ltb, eqb}
 use lib.Ieee.{Float, lt}
 use lib.ListN.{length}
+use Rattle.numbers.specs.Refusal.{numberOf}
+use Rattle.numbers.specs.declared.refusal.Outcome.{Outcome}
+use Rattle.numbers.specs.declared.refusal.Outcome.the-variants.{Accepted, Refused}
 use Rattle.clipping_predictor.specs.Predictor.{frameFits, enteredIf}
 use Rattle.mono_input_volume_controller.specs.declared.speech_level.SpeechLevel.{SpeechLevel}
 use Rattle.input_volume_controller.specs.declared.Applied.{Applied}
@@ -15,9 +18,9 @@ use Rattle.input_volume_controller.specs.declared.Applied.the-variants.{Nothing
 use Rattle.input_volume_controller.specs.ClippedRatio.{clippedRatio}
 use Rattle.input_volume_controller.specs.Controller.{Controller}
 use Rattle.input_volume_controller.specs.Reply.{Reply, refusal, done}
-use Rattle.input_volume_controller.specs.ControlCalls.{withAppliedInputVolumes}
-use Rattle.input_volume_controller.specs.Volumes.{Volumes, outsideSet, numberSet, areNumbers, numbersOf}
-use Rattle.input_volume_controller.specs.Frame.{unlessWaiting, ifUsed, unlessRefused, analyzeInputAudio}
+use Rattle.input_volume_controller.specs.Volumes.{areNumbers, numbersOf, numbersIn}
+use Rattle.input_volume_controller.specs.Limits.{isWithin}
+use Rattle.input_volume_controller.specs.Frame.{withVolumesApplied, testedAs, frameOutcome, unlessWaiting, ifUsed, unlessRefused, analyzeInputAudio}
 use Rattle.input_volume_controller.specs.Recommendation.{recommendIf, unlessNone, recommendInputVolume}
 use Rattle.input_volume_controller.specs.Calls.{Call, frame, recommendation, initialise, captureSwitch, step}
 use Rattle.claims.specs.Causes.{firstOf, callCauses}
@@ -41,20 +44,27 @@ used-accepts true samples lent c =
     (record { control = c .control; predictor = enteredIf true samples lent (c .predictor) })
 used-accepts false samples lent c = refl
 
-frame-first : (counted : Bool) (v : Volumes) (fits : Bool) (samples : ℕ) (lent : List Float) (c : Controller)
-    → refusedBy (unlessRefused counted v fits samples lent c .reply) ≡ firstOf (frameCausesBy (not counted) (not (areNumbers v)) (not fits))
-frame-first false v fits samples lent c = refl
-frame-first true outsideSet fits samples lent c = refl
-frame-first true (numberSet ns) false samples lent c = refl
-frame-first true (numberSet ns) true samples lent c = used-accepts (c .control .used) samples lent (record { control = withAppliedInputVolumes ns (c .control); predictor = c .predictor })
+-- the number of an outcome
+abbrev saidBy : Outcome → Option ℕ
+saidBy (Refused cause) = some (numberOf cause)
+saidBy Accepted = none
 
-frame-same : (counted : Bool) (v : Volumes) (fits : Bool) (samples : ℕ) (lent : List Float) (c : Controller) (number : ℕ) → unlessRefused counted v fits samples lent c .reply ≡ refusal number
-    → unlessRefused counted v fits samples lent c .state ≡ c
-frame-same false v fits samples lent c number e = refl
-frame-same true outsideSet fits samples lent c number e = refl
-frame-same true (numberSet ns) false samples lent c number e = refl
-frame-same true (numberSet ns) true samples lent c number e =
-    absurd (never _ number (used-accepts (c .control .used) samples lent (record { control = withAppliedInputVolumes ns (c .control); predictor = c .predictor })) e)
+-- the first test that fails says it
+first-fails : (counted inside fits within : Bool) → saidBy (testedAs counted inside fits within) ≡ firstOf (frameCausesBy (not counted) (not inside) (not fits) (not within))
+first-fails false inside fits within = refl
+first-fails true false fits within = refl
+first-fails true true false within = refl
+first-fails true true true false = refl
+first-fails true true true true = refl
+
+frame-says : (o : Outcome) (volumes : List ℕ) (samples : ℕ) (lent : List Float) (c : Controller) → refusedBy (unlessRefused o volumes samples lent c .reply) ≡ saidBy o
+frame-says (Refused cause) volumes samples lent c = refl
+frame-says Accepted volumes samples lent c = used-accepts (c .control .used) samples lent (withVolumesApplied volumes c)
+
+frame-same : (o : Outcome) (volumes : List ℕ) (samples : ℕ) (lent : List Float) (c : Controller) (number : ℕ) → unlessRefused o volumes samples lent c .reply ≡ refusal number
+    → unlessRefused o volumes samples lent c .state ≡ c
+frame-same (Refused cause) volumes samples lent c number e = refl
+frame-same Accepted volumes samples lent c number e = absurd (never _ number (used-accepts (c .control .used) samples lent (withVolumesApplied volumes c)) e)
 
 -- ---- recommendations are never refused
 
@@ -70,16 +80,18 @@ answers-or-none (Volume applied) probability level c = recommends (c .control .u
 
 first-holds : (c : Controller) (call : Call) → refusedBy (step c call .reply) ≡ firstOf (callCauses (length (c .control .channels)) call)
 unfolding analyzeInputAudio recommendInputVolume
-first-holds c (frame v samples lent) =
-    frame-first (eqb (length v) (length (c .control .channels))) (numbersOf v) (frameFits (length (c .control .channels)) samples lent) samples lent c
-    ∙ ap firstOf (sym (frame-causes (length (c .control .channels)) v samples lent))
+first-holds c (frame most v samples lent) =
+    let n = length (c .control .channels) in
+    frame-says (frameOutcome most n v samples lent) (numbersIn (numbersOf v)) samples lent c
+    ∙ first-fails (eqb (length v) n) (areNumbers (numbersOf v)) (frameFits n samples lent) (isWithin most n samples)
+    ∙ ap firstOf (sym (frame-causes most n v samples lent))
 first-holds c (recommendation probability level) = answers-or-none (c .control .applied) probability level c
 first-holds c initialise = refl
 first-holds c (captureSwitch on) = refl
 
 same-state : (c : Controller) (call : Call) (number : ℕ) → step c call .reply ≡ refusal number → step c call .state ≡ c
 unfolding analyzeInputAudio recommendInputVolume
-same-state c (frame v samples lent) number e = frame-same (eqb (length v) (length (c .control .channels))) (numbersOf v) (frameFits (length (c .control .channels)) samples lent) samples lent c number e
+same-state c (frame most v samples lent) number e = frame-same (frameOutcome most (length (c .control .channels)) v samples lent) (numbersIn (numbersOf v)) samples lent c number e
 same-state c (recommendation probability level) number e = absurd (never _ number (answers-or-none (c .control .applied) probability level c) e)
 same-state c initialise number e = absurd (never done number refl e)
 same-state c (captureSwitch on) number e = absurd (never done number refl e)

@@ -23,7 +23,7 @@ module _ (channels : ℕ) (strict loose : ℕ → List Float → Bool) (weaker :
 
   pub calm-too : (call : Call) → T (isCalm channels strict call) → T (isCalm channels loose call)
   unfolding isCalm
-  calm-too (frame volumes samples lent) t = calm-if (isAccepted channels volumes samples lent) samples lent t
+  calm-too (frame most volumes samples lent) t = calm-if (isAccepted most channels volumes samples lent) samples lent t
   calm-too (recommendation probability level) t = tt
   calm-too initialise t = tt
   calm-too (captureSwitch on) t = t
@@ -35,6 +35,7 @@ module _ (channels : ℕ) (strict loose : ℕ → List Float → Bool) (weaker :
     afterInitialise = l .afterInitialise;
     afterFrame = l .afterFrame;
     afterRecommendation = l .afterRecommendation;
+    most = l .most;
     volumes = l .volumes;
     samples = l .samples;
     lent = l .lent;

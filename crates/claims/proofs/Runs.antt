@@ -1,26 +1,28 @@
 -- Runs: lists one after the other; refused frames change nothing; accepted frames and recommendations by what they lead to. Assumes nothing.
 use mathlib.Core.Path.{_≡_, refl, sym, ap, _∙_, subst}
 use mathlib.Core.List.{List, [], _∷_, _++_, map}
-use mathlib.Core.Bool.{Bool, true, false, not, _&&_}
+use mathlib.Core.Bool.{Bool, true, not}
 use Prim.Native.Nat.{ℕ}
-use lib.Dec.{T, eqb, eqb→eq}
+use lib.Dec.{T}
 use lib.IntN.{ℤ, pos, natAbs}
 use lib.Ieee.{Float}
 use lib.ListN.{length}
-use borrow.Author.Tests.{eq-eqb}
-use Rattle.clipping_predictor.specs.Predictor.{frameFits}
+use Rattle.numbers.specs.declared.refusal.Outcome.{Outcome}
+use Rattle.numbers.specs.declared.refusal.Outcome.the-variants.{Accepted, Refused}
 use Rattle.mono_input_volume_controller.specs.declared.speech_level.SpeechLevel.{SpeechLevel}
 use Rattle.input_volume_controller.specs.declared.Applied.{Applied}
 use Rattle.input_volume_controller.specs.declared.Applied.the-variants.{Volume}
 use Rattle.input_volume_controller.specs.Controller.{Controller}
-use Rattle.input_volume_controller.specs.Volumes.{Volumes, outsideSet, numberSet, areNumbers, numbersOf}
-use Rattle.input_volume_controller.specs.Frame.{unlessRefused, analyzeInputAudio}
+use Rattle.input_volume_controller.specs.declared.limits.Limits.{Limits}
+use Rattle.input_volume_controller.specs.Volumes.{numbersOf, numbersIn}
+use Rattle.input_volume_controller.specs.Frame.{frameOutcome, unlessRefused, analyzeInputAudio}
 use Rattle.input_volume_controller.specs.Recommendation.{recommendIf, unlessNone, recommendInputVolume}
 use Rattle.input_volume_controller.specs.Calls.{Call, frame, recommendation, initialise, captureSwitch, step, after}
 use Rattle.claims.specs.Past.{isAccepted}
 use Rattle.claims.specs.LeadIn.{all, isRefused}
-use Rattle.claims.proofs.Lists.{and-l, and-r, is-true}
-use Rattle.input_volume_controller.proofs.SetNumbers.{numbers-are, numbers-back}
+use Rattle.claims.proofs.Lists.{and-l, and-r}
+use Rattle.claims.proofs.Outcomes.{isTaken, accepted-is, outcome-is, accepted-as}
+use Rattle.input_volume_controller.proofs.SetNumbers.{numbers-back}
 
 pub after-append : (a b : List Call) (c : Controller) → after c (a ++ b) ≡ after (after c a) b
 unfolding after
@@ -28,18 +30,15 @@ after-append [] b c = refl
 after-append (call ∷ calls) b c = after-append calls b (step c call .state)
 
 -- refused frames change nothing
-refused-same : (counted : Bool) (volumes : Volumes) (fits : Bool) (samples : ℕ) (lent : List Float) (c : Controller) → T (not (counted && (areNumbers volumes && fits)))
-    → unlessRefused counted volumes fits samples lent c .state ≡ c
-refused-same false volumes fits samples lent c t = refl
-refused-same true outsideSet fits samples lent c t = refl
-refused-same true (numberSet volumes) false samples lent c t = refl
-refused-same true (numberSet volumes) true samples lent c t = absurd t
+refused-same : (o : Outcome) (volumes : List ℕ) (samples : ℕ) (lent : List Float) (c : Controller) → T (not (isTaken o)) → unlessRefused o volumes samples lent c .state ≡ c
+refused-same (Refused cause) volumes samples lent c t = refl
+refused-same Accepted volumes samples lent c t = absurd t
 
 pub step-refused : (n : ℕ) (call : Call) (c : Controller) → length (c .control .channels) ≡ n → T (isRefused n call) → step c call .state ≡ c
-unfolding isRefused isAccepted analyzeInputAudio
-step-refused n (frame volumes samples lent) c e t =
-    refused-same (eqb (length volumes) (length (c .control .channels))) (numbersOf volumes) (frameFits (length (c .control .channels)) samples lent) samples lent c
-    (subst (λ (x : ℕ). T (not (eqb (length volumes) x && (areNumbers (numbersOf volumes) && frameFits x samples lent)))) (sym e) t)
+unfolding isRefused analyzeInputAudio
+step-refused n (frame most volumes samples lent) c e t =
+    refused-same (frameOutcome most (length (c .control .channels)) volumes samples lent) (numbersIn (numbersOf volumes)) samples lent c
+    (subst (λ (accepted : Bool). T (not accepted)) (sym (accepted-is most volumes samples lent e)) t)
 step-refused n (recommendation probability level) c e t = absurd t
 step-refused n initialise c e t = absurd t
 step-refused n (captureSwitch on) c e t = absurd t
@@ -55,34 +54,18 @@ skip n calls rest c e t = after-append calls rest c ∙ ap (λ (x : Controller).
 
 -- ---- accepted frames and recommendations
 
--- what an accepted frame's tests say
-pub record AcceptedAs (n : ℕ) (volumes : List ℤ) (samples : ℕ) (lent : List Float) : Type 0 where
-  pub count : length volumes ≡ n
-  pub numbers : numbersOf volumes ≡ numberSet (map natAbs volumes)
-  pub fits : frameFits n samples lent ≡ true
-
-pub accepted-as : (n : ℕ) (volumes : List ℤ) (samples : ℕ) (lent : List Float) → T (isAccepted n volumes samples lent) → AcceptedAs n volumes samples lent
-unfolding isAccepted
-accepted-as n volumes samples lent t =
-    let counted = eqb (length volumes) n in
-    let are = areNumbers (numbersOf volumes) in
-    let fits = frameFits n samples lent in
-    let rest : T (are && fits) = and-r counted (are && fits) t in
-    record { count = eqb→eq (length volumes) n (and-l counted (are && fits) t); numbers = numbers-are volumes (and-l are fits rest); fits = is-true fits (and-r are fits rest) }
-
-pub step-accepted : (n : ℕ) (volumes : List ℤ) (samples : ℕ) (lent : List Float) (c : Controller) → length (c .control .channels) ≡ n → T (isAccepted n volumes samples lent)
-    → step c (frame volumes samples lent) ≡ unlessRefused true (numberSet (map natAbs volumes)) true samples lent c
+pub step-accepted : (n : ℕ) (most : Limits) (volumes : List ℤ) (samples : ℕ) (lent : List Float) (c : Controller) → length (c .control .channels) ≡ n → T (isAccepted most n volumes samples lent)
+    → step c (frame most volumes samples lent) ≡ unlessRefused Accepted (map natAbs volumes) samples lent c
 unfolding analyzeInputAudio
-step-accepted n volumes samples lent c e t =
-    let a = accepted-as n volumes samples lent t in
-    (λ i. unlessRefused (eqb (length volumes) (e i)) (numbersOf volumes) (frameFits (e i) samples lent) samples lent c)
-    ∙ (λ i. unlessRefused (eq-eqb (length volumes) n (a .count) i) (a .numbers i) (a .fits i) samples lent c)
+step-accepted n most volumes samples lent c e t =
+    let a = accepted-as most volumes samples lent n t in
+    λ i. unlessRefused (outcome-is most volumes samples lent e t i) (numbersIn (a .numbers i)) samples lent c
 
 -- the same of volumes that were numbers
-pub step-numbers : (n : ℕ) (numbers : List ℕ) (samples : ℕ) (lent : List Float) (c : Controller) → length (c .control .channels) ≡ n → T (isAccepted n (map pos numbers) samples lent)
-    → step c (frame (map pos numbers) samples lent) ≡ unlessRefused true (numberSet numbers) true samples lent c
-step-numbers n numbers samples lent c e t =
-    step-accepted n (map pos numbers) samples lent c e t ∙ ap (λ (ns : List ℕ). unlessRefused true (numberSet ns) true samples lent c) (numbers-back numbers)
+pub step-numbers : (n : ℕ) (most : Limits) (numbers : List ℕ) (samples : ℕ) (lent : List Float) (c : Controller) → length (c .control .channels) ≡ n → T (isAccepted most n (map pos numbers) samples lent)
+    → step c (frame most (map pos numbers) samples lent) ≡ unlessRefused Accepted numbers samples lent c
+step-numbers n most numbers samples lent c e t =
+    step-accepted n most (map pos numbers) samples lent c e t ∙ ap (λ (ns : List ℕ). unlessRefused Accepted ns samples lent c) (numbers-back numbers)
 
 pub step-recommended : (probability : Float) (level : SpeechLevel) (v : ℕ) (c : Controller) → c .control .applied ≡ Volume v → c .control .used ≡ true
     → step c (recommendation probability level) .state ≡ recommendIf true v probability level c .state

@@ -5,9 +5,11 @@ use mathlib.Core.Bool.{Bool, true, false, _||_}
 use mathlib.Core.List.{List, [], _∷_}
 use Prim.Native.Nat.{ℕ, _≤_, max, zero-le}
 use native.Mathlib.Omega.{arith}
-use lib.Dec.{ltb, eqb}
+use lib.Dec.{ltb}
 use lib.Ieee.{Float, lt}
 use lib.ListN.{length, length-take, length-map}
+use Rattle.numbers.specs.declared.refusal.Outcome.{Outcome}
+use Rattle.numbers.specs.declared.refusal.Outcome.the-variants.{Accepted, Refused}
 use Rattle.clipping_predictor_level_buffer.specs.declared.level.Level.{Level}
 use Rattle.clipping_predictor_level_buffer.specs.Level.{maxSamplesPerChannel, frameRecord}
 use Rattle.clipping_predictor_level_buffer.specs.Ring.{Counted}
@@ -16,7 +18,7 @@ use Rattle.clipping_predictor.specs.declared.modes.Estimated.{Estimated}
 use Rattle.clipping_predictor.specs.declared.settings.Settings as PredictorSettings
 use Rattle.clipping_predictor.specs.Settings as Predictors
 use Rattle.clipping_predictor.specs.Estimate.{capacityOf}
-use Rattle.clipping_predictor.specs.Predictor.{maxChannels, Predictor, partOf, levelsOf, pushEach, frameFits, enteredIf, emptied}
+use Rattle.clipping_predictor.specs.Predictor.{maxChannels, Predictor, partOf, levelsOf, pushEach, enteredIf, emptied}
 use Rattle.clipping_predictor.specs.AllRings.{predictedBy}
 use Rattle.clipping_predictor.proofs.Frames.{fits}
 use Rattle.clipping_predictor.proofs.MostClipped.{part-few}
@@ -30,18 +32,19 @@ use Rattle.input_volume_controller.specs.declared.channels.ChannelCall.the-vari
 use Rattle.input_volume_controller.specs.declared.Applied.{Applied}
 use Rattle.input_volume_controller.specs.declared.Applied.the-variants.{Nothing, Volume}
 use Rattle.input_volume_controller.specs.ClippedRatio.{clippedRatio}
-use Rattle.input_volume_controller.specs.Volumes.{Volumes, outsideSet, numberSet, numbersOf, lowestOf}
+use Rattle.input_volume_controller.specs.Volumes.{numbersOf, numbersIn, lowestOf}
 use Rattle.input_volume_controller.specs.Channels.{called, eachCalled, aggregateOf}
 use Rattle.input_volume_controller.specs.Control.{Control}
 use Rattle.input_volume_controller.specs.ControlCalls.{raisedFor, aggregated, withAppliedInputVolumes, initialize, lowerChannels, processChannels}
 use Rattle.input_volume_controller.specs.Controller.{Controller}
-use Rattle.input_volume_controller.specs.Frame.{askedOf, handleIf, unlessWaiting, ifUsed, withVolumesApplied, unlessRefused, analyzeInputAudio}
+use Rattle.input_volume_controller.specs.Frame.{askedOf, handleIf, unlessWaiting, ifUsed, withVolumesApplied, frameOutcome, unlessRefused, analyzeInputAudio}
 use Rattle.input_volume_controller.specs.Recommendation.{recommendIf, unlessNone, recommendInputVolume}
 use Rattle.input_volume_controller.specs.Calls.{Call, frame, recommendation, initialise, captureSwitch, step}
 use Rattle.input_volume_controller.proofs.Whole.{entered-count, emptied-count}
 use Rattle.claims.specs.Every.{Every}
 use Rattle.claims.proofs.Every.{every-map, every-listed}
 use Rattle.input_volume_controller.proofs.ChannelLists.{length-given}
+use Rattle.claims.proofs.Outcomes.{told-accepted, accepted-as}
 use Rattle.claims.proofs.Walk.{Any, Keeps, any-by, step-keeps}
 use Rattle.claims.proofs.Sound.{good-initialized, good-switch, good-lowered, good-process, all-called, all-given, lowest-most, raised-most}
 
@@ -169,12 +172,10 @@ module _ (n : ℕ) where
       (record { control = c .control; predictor = enteredIf true samples lent (c .predictor) }) (entered-sane samples lent (c .predictor) most h)
   used-sane false samples lent c most h = h
 
-  frame-sane : (counted : Bool) (v : Volumes) (fit : Bool) (samples : ℕ) (lent : List Float) (c : Controller) → frameFits (length (c .control .channels)) samples lent ≡ fit → SanePredictor n (c .predictor)
-      → SanePredictor n (unlessRefused counted v fit samples lent c .state .predictor)
-  frame-sane false v fit samples lent c e h = h
-  frame-sane true outsideSet fit samples lent c e h = h
-  frame-sane true (numberSet volumes) false samples lent c e h = h
-  frame-sane true (numberSet volumes) true samples lent c e h = used-sane (c .control .used) samples lent (withVolumesApplied volumes c) (fits (length (c .control .channels)) samples lent e .most) h
+  frame-sane : (o : Outcome) (volumes : List ℕ) (samples : ℕ) (lent : List Float) (c : Controller) → (o ≡ Accepted → samples ≤ maxSamplesPerChannel) → SanePredictor n (c .predictor)
+      → SanePredictor n (unlessRefused o volumes samples lent c .state .predictor)
+  frame-sane (Refused cause) volumes samples lent c most h = h
+  frame-sane Accepted volumes samples lent c most h = used-sane (c .control .used) samples lent (withVolumesApplied volumes c) (most refl) h
 
   recommended-sane : (t : Bool) (applied : ℕ) (probability : Float) (level : SpeechLevel) (c : Controller) → SanePredictor n (c .predictor) → SanePredictor n (recommendIf t applied probability level c .state .predictor)
   recommended-sane true applied probability level c h = h
@@ -186,8 +187,10 @@ module _ (n : ℕ) where
 
   predictor-sane : (call : Call) (c : Controller) → SanePredictor n (c .predictor) → SanePredictor n (step c call .state .predictor)
   unfolding analyzeInputAudio recommendInputVolume
-  predictor-sane (frame volumes samples lent) c h =
-      frame-sane (eqb (length volumes) (length (c .control .channels))) (numbersOf volumes) (frameFits (length (c .control .channels)) samples lent) samples lent c refl h
+  predictor-sane (frame most volumes samples lent) c h =
+      let k = length (c .control .channels) in
+      frame-sane (frameOutcome most k volumes samples lent) (numbersIn (numbersOf volumes)) samples lent c
+      (λ e. fits k samples lent (accepted-as most volumes samples lent k (told-accepted most volumes samples lent k e) .fits) .most) h
   predictor-sane (recommendation probability level) c h = asked-sane (c .control .applied) probability level c h
   predictor-sane initialise c h = h
   predictor-sane (captureSwitch on) c h = h

@@ -42,6 +42,7 @@ use Rattle.input_volume_controller.specs.ClippedRatio.{clippedRatio}
 use Rattle.mono_input_volume_controller.specs.Config.{defaults, settingsFrom, settingsOf}
 use Rattle.input_volume_controller.specs.Channels.{called, eachGiven, aggregateOf}
 use Rattle.input_volume_controller.specs.Volumes.{numbersOf, lowestOf}
+use Rattle.input_volume_controller.specs.Limits.{plainLimits}
 use Rattle.input_volume_controller.specs.ControlCalls.{withAppliedInputVolumes, initialize, lowerChannels}
 use Rattle.input_volume_controller.specs.Controller.{Controller, basePredictor, switched, freshWith, fresh, Making, makingWith}
 use Rattle.input_volume_controller.specs.Frame.{analyzeInputAudio}
@@ -63,7 +64,7 @@ use Rattle.claims.proofs.OneSample.{still, loud, clipped}
 module _ (isStill : ℕ → List Float → Bool) (passes : T (isStill 1 (plusZero ∷ []))) where
   still-calm : (volume : ℕ) → T (isCalm 1 isStill (still volume))
   unfolding isCalm
-  still-calm volume = or-right (not (isAccepted 1 (pos volume ∷ []) 1 (plusZero ∷ []))) (isStill 1 (plusZero ∷ [])) passes
+  still-calm volume = or-right (not (isAccepted plainLimits 1 (pos volume ∷ []) 1 (plusZero ∷ []))) (isStill 1 (plusZero ∷ [])) passes
 
   lead : (body : List Call) (least : ℕ) → T (all (isCalm 1 isStill) body) → least ≤ acceptedIn 1 body → LeadIn 1 isStill least
   unfolding withinOf numbersOf frameFits all isAccepted
@@ -72,6 +73,7 @@ module _ (isStill : ℕ → List Float → Bool) (passes : T (isStill 1 (plusZer
     afterInitialise = [];
     afterFrame = [];
     afterRecommendation = [];
+    most = plainLimits;
     volumes = 100 ∷ [];
     samples = 1;
     lent = plusZero ∷ [];

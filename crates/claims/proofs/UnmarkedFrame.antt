@@ -3,10 +3,12 @@ use mathlib.Core.Path.{_≡_, refl, sym, ap, _∙_, subst}
 use mathlib.Core.Bool.{Bool, true, false, _||_}
 use mathlib.Core.List.{List, [], _∷_, map}
 use Prim.Native.Nat.{ℕ, _*_, max}
-use lib.Dec.{T, ltb, eqb}
+use lib.Dec.{T, ltb}
 use lib.IntN.{ℤ}
 use lib.Ieee.{Float, nan, inf, fin, binary32, fits, lt}
 use lib.ListN.{length, drop}
+use Rattle.numbers.specs.declared.refusal.Outcome.{Outcome}
+use Rattle.numbers.specs.declared.refusal.Outcome.the-variants.{Accepted, Refused}
 use Rattle.levels.specs.FloatParts.{magnitudeOf}
 use Rattle.clipping_predictor_level_buffer.specs.declared.level.Level.{Level}
 use Rattle.clipping_predictor_level_buffer.specs.Level.{frameRecord}
@@ -15,14 +17,15 @@ use Rattle.clipping_predictor.specs.declared.settings.Settings.{Settings}
 use Rattle.clipping_predictor.specs.declared.modes.Asked.{Asked}
 use Rattle.clipping_predictor.specs.Turned.{Turned, Each, estimated}
 use Rattle.clipping_predictor.specs.Estimate.{estimateTree, capacityOf}
-use Rattle.clipping_predictor.specs.Predictor.{Predictor, partOf, levelsOf, pushEach, frameFits, enteredIf}
+use Rattle.clipping_predictor.specs.Predictor.{Predictor, partOf, levelsOf, pushEach, enteredIf}
 use Rattle.clipping_predictor.specs.AllRings.{predictedBy}
 use Rattle.clipping_predictor.proofs.Turns.{turned-spread, unmarked-only}
 use Rattle.input_volume_controller.specs.ClippedRatio.{clippedRatio}
-use Rattle.input_volume_controller.specs.Volumes.{Volumes, outsideSet, numberSet, numbersOf}
+use Rattle.input_volume_controller.specs.declared.limits.Limits.{Limits}
+use Rattle.input_volume_controller.specs.Volumes.{numbersOf, numbersIn}
 use Rattle.input_volume_controller.specs.Controller.{Controller}
 use Rattle.input_volume_controller.specs.Reply.{mark, Stepped}
-use Rattle.input_volume_controller.specs.Frame.{askedOf, handleIf, unlessWaitingBy, ifUsedBy, unlessRefusedBy, unlessWaiting, ifUsed, unlessRefused, withVolumesApplied, analyzeInputAudio}
+use Rattle.input_volume_controller.specs.Frame.{askedOf, handleIf, unlessWaitingBy, ifUsedBy, unlessRefusedBy, unlessWaiting, ifUsed, unlessRefused, withVolumesApplied, frameOutcome, analyzeInputAudio}
 use Rattle.input_volume_controller.proofs.TwoDrops.{same-drop}
 use Rattle.input_volume_controller.proofs.Marks.{Comes, handled-unmarked}
 use Rattle.claims.specs.Exact.{exactDrop}
@@ -107,23 +110,20 @@ used-exact true samples lent c f g =
     (record { control = c .control; predictor = enteredIf true samples lent (c .predictor) }) (entered-fits samples lent (c .predictor) f g)
 used-exact false samples lent c f g = record { fit = g; same = λ m. refl }
 
-refused-exact : (counted : Bool) (v : Volumes) (fit : Bool) (samples : ℕ) (lent : List Float) (c : Controller) → Every (λ (x : Float). T (fits binary32 x)) lent → Every (Every PeakFits) (c .predictor .rings)
-    → Exactly (unlessRefused counted v fit samples lent c) (unlessRefusedBy exactPredicted counted v fit samples lent c)
-refused-exact false v fit samples lent c f g = record { fit = g; same = λ m. refl }
-refused-exact true outsideSet fit samples lent c f g = record { fit = g; same = λ m. refl }
-refused-exact true (numberSet volumes) false samples lent c f g = record { fit = g; same = λ m. refl }
-refused-exact true (numberSet volumes) true samples lent c f g = used-exact (c .control .used) samples lent (withVolumesApplied volumes c) f g
+refused-exact : (o : Outcome) (volumes : List ℕ) (samples : ℕ) (lent : List Float) (c : Controller) → Every (λ (x : Float). T (fits binary32 x)) lent → Every (Every PeakFits) (c .predictor .rings)
+    → Exactly (unlessRefused o volumes samples lent c) (unlessRefusedBy exactPredicted o volumes samples lent c)
+refused-exact (Refused cause) volumes samples lent c f g = record { fit = g; same = λ m. refl }
+refused-exact Accepted volumes samples lent c f g = used-exact (c .control .used) samples lent (withVolumesApplied volumes c) f g
 
-pub frame-exact : (volumes : List ℤ) (samples : ℕ) (lent : List Float) (c : Controller) → Every (λ (x : Float). T (fits binary32 x)) lent → Every (Every PeakFits) (c .predictor .rings)
-    → Exactly (analyzeInputAudio volumes samples lent c) (exactFrame volumes samples lent c)
+pub frame-exact : (most : Limits) (volumes : List ℤ) (samples : ℕ) (lent : List Float) (c : Controller) → Every (λ (x : Float). T (fits binary32 x)) lent → Every (Every PeakFits) (c .predictor .rings)
+    → Exactly (analyzeInputAudio most volumes samples lent c) (exactFrame most volumes samples lent c)
 unfolding analyzeInputAudio exactFrame
-frame-exact volumes samples lent c f g =
-    refused-exact (eqb (length volumes) (length (c .control .channels))) (numbersOf volumes) (frameFits (length (c .control .channels)) samples lent) samples lent c f g
+frame-exact most volumes samples lent c f g = refused-exact (frameOutcome most (length (c .control .channels)) volumes samples lent) (numbersIn (numbersOf volumes)) samples lent c f g
 
 -- THE CLAIM
 pub unmarked-is-exact : UnmarkedIsExact
 unmarked-is-exact = record {
   may = λ s records a f. may-same s records a .to (exactDrop s records a) (exact-turned s records a f);
   estimate = λ s records a f m. unmarked-only (estimated (estimateTree s records a)) (turned-spread (estimateTree s records a)) m (exactDrop s records a) (exact-turned s records a f);
-  frames = λ c volumes samples lent f g m. ap (λ (s : Stepped). s .state) (frame-exact volumes samples lent c (every-from (λ (x : Float). T (fits binary32 x)) lent nan g) f .same (subst NotNear (sym m) refl));
+  frames = λ c most volumes samples lent f g m. ap (λ (s : Stepped). s .state) (frame-exact most volumes samples lent c (every-from (λ (x : Float). T (fits binary32 x)) lent nan g) f .same (subst NotNear (sym m) refl));
 }

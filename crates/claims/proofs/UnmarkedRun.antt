@@ -42,7 +42,7 @@ unfolding recommendInputVolume
 recommendation-rings probability level c = none-rings (c .control .applied) probability level c
 
 step-exact : (call : Call) (c : Controller) → Typed call → Every (Every PeakFits) (c .predictor .rings) → Exactly (step c call) (exactStep c call)
-step-exact (frame volumes samples lent) c f g = frame-exact volumes samples lent c (every-from (λ (x : Float). T (fits binary32 x)) lent nan f) g
+step-exact (frame most volumes samples lent) c f g = frame-exact most volumes samples lent c (every-from (λ (x : Float). T (fits binary32 x)) lent nan f) g
 step-exact (recommendation probability level) c f g = record { fit = subst (λ (p : Predictor). Every (Every PeakFits) (p .rings)) (sym (recommendation-rings probability level c)) g; same = λ m. refl }
 step-exact initialise c f g = record { fit = g; same = λ m. refl }
 step-exact (captureSwitch on) c f g = record { fit = g; same = λ m. refl }

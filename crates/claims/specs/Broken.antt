@@ -1,8 +1,9 @@
 -- A broken sample leaves. From any state, after any calls in which at least delay + reference frames were accepted with capture on, every ring stores records of those frames alone, in
 -- their order: what stood before, a not-a-number or not, is gone. Document 01: "holding delay + reference records (its capacity); a push into a full one replaces the oldest"; "With capture on
 -- every frame first enters the rings"; a lowering of the channels "empties the rings".
--- It reaches the code by the contracts of `InputVolumeController::{analyze_input_audio, analyze_input_audio_each, recommend_input_volume, initialize, handle_capture_output_used_change}`: each hands
--- back one step of the definition (`Does`), so a run of the functions is a run of `after` (Run.antt), from whatever controller in good order it starts. Definitions only.
+-- It reaches the code by the contracts of `InputVolumeController::{analyze_input_audio, analyze_input_audio_each, spotter_analyze_input_audio, spotter_analyze_input_audio_each, recommend_input_volume, initialize,
+-- handle_capture_output_used_change}`: each hands back one step of the definition (`Does`), so a run of the functions is a run of `after` (Run.antt), from whatever controller in good order it starts. Definitions
+-- only.
 use mathlib.Core.Path.{_≡_}
 use mathlib.Core.Bool.{Bool, true, false, _&&_}
 use mathlib.Core.List.{List, [], _∷_, map, reverse}
@@ -32,8 +33,8 @@ withIf false f frames = frames
 -- the frames of a list of calls that were accepted with capture on, newest first; the calls stand newest first too
 unfoldable pub acceptedFrames : ℕ → Bool → List Call → List Frame
 acceptedFrames channels start [] = []
-acceptedFrames channels start (frame volumes samples lent ∷ before) =
-    withIf (isAccepted channels volumes samples lent && captureOn start before) (record { samples = samples; lent = lent }) (acceptedFrames channels start before)
+acceptedFrames channels start (frame most volumes samples lent ∷ before) =
+    withIf (isAccepted most channels volumes samples lent && captureOn start before) (record { samples = samples; lent = lent }) (acceptedFrames channels start before)
 acceptedFrames channels start (recommendation probability level ∷ before) = acceptedFrames channels start before
 acceptedFrames channels start (initialise ∷ before) = acceptedFrames channels start before
 acceptedFrames channels start (captureSwitch on ∷ before) = acceptedFrames channels start before

@@ -1,4 +1,5 @@
--- Document 01, "What a call can say no to", as a table: for each call on a controller, and for its making, the causes about its inputs in their order (rising number, but 20 of a frame's set first), and the first that holds. Definitions only.
+-- Document 01, "What a call can say no to", as a table: for each call on a controller, and for its making, the causes about its inputs in their order (rising number, but of a frame 20 first: 20, 8, 9 and 18), and
+-- the first that holds. Definitions only.
 use mathlib.Core.Bool.{Bool, true, false, not, _&&_, _||_}
 use mathlib.Core.List.{List, [], _∷_}
 use mathlib.Core.Option.{Option, none, some}
@@ -10,6 +11,7 @@ use lib.Ieee.{Float, binary32, le, ofInt}
 use lib.ListN.{length}
 use Rattle.clipping_predictor.specs.declared.settings.ClippingPredictorConfig.{ClippingPredictorConfig}
 use Rattle.mono_input_volume_controller.specs.declared.config.Config.{Config}
+use Rattle.input_volume_controller.specs.declared.limits.Limits.{Limits}
 use Rattle.input_volume_controller.specs.Calls.{Call, frame, recommendation, initialise, captureSwitch}
 
 -- a cause of the table: its number, and whether it holds
@@ -39,20 +41,26 @@ anyOutside (volume ∷ volumes) = outside (pos 0) (pos 255) volume || anyOutside
 abbrev pub outsideUnit : Float → Bool
 outsideUnit x = not (le (ofInt binary32 (pos 0)) x && le x (ofInt binary32 (pos 1)))
 
--- a frame, with the count of channels
-abbrev pub frameCauses : ℕ → List ℤ → ℕ → List Float → List Cause
-frameCauses channels volumes samples lent =
+-- "more channels or samples per channel than its own limits"
+abbrev pub isOver : Limits → ℕ → ℕ → Bool
+isOver most channels samples = ltb (most .channels) channels || ltb (most .samples) samples
+
+-- a frame through an entry with these limits, with the count of channels
+abbrev pub frameCauses : Limits → ℕ → List ℤ → ℕ → List Float → List Cause
+frameCauses most channels volumes samples lent =
     -- "a set whose length isn't the channel count"
     record { number = 20; holds = not (eqb (length volumes) channels) }
     -- "a set with any volume outside 0 to 255"
     ∷ record { number = 8; holds = anyOutside volumes }
     -- "samples per channel not 1 to 480, or lent samples not channels × that"
     ∷ record { number = 9; holds = ltb samples 1 || (ltb 480 samples || not (eqb (length lent) (channels * samples))) }
+    -- document 02 (viii), "after all refusals of the larger entry"
+    ∷ record { number = 18; holds = isOver most channels samples }
     ∷ []
 
 -- no other call on a controller can be refused
 abbrev pub callCauses : ℕ → Call → List Cause
-callCauses channels (frame volumes samples lent) = frameCauses channels volumes samples lent
+callCauses channels (frame most volumes samples lent) = frameCauses most channels volumes samples lent
 callCauses channels (recommendation probability level) = []
 callCauses channels initialise = []
 callCauses channels (captureSwitch on) = []

@@ -27,6 +27,7 @@ use Rattle.claims.specs.Depends.{DependsOnOne, SaidByOthers}
 use Rattle.claims.specs.DependsEach.{DependsOnEach}
 use Rattle.claims.specs.AsOneInCode.{AsOneInCode, AsOneInLibrary}
 use Rattle.claims.specs.OneVolume.{OneVolume}
+use Rattle.claims.specs.ShortFrames.{ShortFrames}
 use Rattle.claims.specs.EachTakesItsOwn.{EachTakesItsOwn}
 use Rattle.claims.specs.LowestIsApplied.{LowestIsApplied}
 use Rattle.claims.specs.Controlling.{ControllingIsLowest}
@@ -94,5 +95,7 @@ pub record Claims : Type 0 where
   pub lowest-is-applied : LowestIsApplied
   pub controlling-is-lowest : ControllingIsLowest
   pub one-volume : OneVolume
+  -- short frames: the spotter's entry refuses with 18, the state as before, exactly the frames that the larger entry accepts and that exceed its own 2 channels or 160 samples, and else does what the larger entry does
+  pub short-frames : ShortFrames
   -- the recommendation is none exactly if no frame was accepted since the latest of making, initialise and recommendation with capture on
   pub none : NoneExactly

@@ -11,6 +11,7 @@ use lib.Ieee.{Float}
 use lib.ListN.{length, getD}
 use Rattle.mono_input_volume_controller.specs.declared.mono.MonoInputVolumeController.{MonoInputVolumeController}
 use Rattle.input_volume_controller.specs.declared.channels.ChannelCall.the-variants.{StreamAnalogLevel, Clipping}
+use Rattle.input_volume_controller.specs.declared.limits.Limits.{Limits}
 use Rattle.input_volume_controller.specs.Channels.{called}
 use Rattle.input_volume_controller.specs.Controller.{Controller}
 use Rattle.input_volume_controller.specs.Calls.{frame, step}
@@ -38,4 +39,5 @@ pub record EachTook (volumes : List ℤ) (before after : Controller) : Type 0 wh
 -- THE CLAIM, from any state
 abbrev pub EachTakesItsOwn : Type 0
 EachTakesItsOwn =
-    (c : Controller) (volumes : List ℤ) (samples : ℕ) (lent : List Float) → T (isAccepted (length (c .control .channels)) volumes samples lent) → EachTook volumes c (step c (frame volumes samples lent) .state)
+    (c : Controller) (most : Limits) (volumes : List ℤ) (samples : ℕ) (lent : List Float) → T (isAccepted most (length (c .control .channels)) volumes samples lent)
+    → EachTook volumes c (step c (frame most volumes samples lent) .state)

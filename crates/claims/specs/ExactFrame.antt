@@ -7,6 +7,7 @@ use Rattle.clipping_predictor_level_buffer.specs.declared.level.Level.{Level}
 use Rattle.clipping_predictor.specs.declared.modes.Asked.{Asked}
 use Rattle.clipping_predictor.specs.declared.modes.Estimated.{Estimated}
 use Rattle.clipping_predictor.specs.Predictor.{Predictor}
+use Rattle.input_volume_controller.specs.declared.limits.Limits.{Limits}
 use Rattle.input_volume_controller.specs.Controller.{Controller}
 use Rattle.input_volume_controller.specs.Reply.{Stepped}
 use Rattle.input_volume_controller.specs.Frame.{frameBy}
@@ -18,5 +19,5 @@ unfoldable pub exactPredicted : Asked → Predictor → Estimated
 exactPredicted a p = predictedAs (map (λ (records : List Level). exactDrop (p .settings) records a) (p .rings)) a p
 
 -- the frame's own definition, with these estimates
-unfoldable pub exactFrame : List ℤ → ℕ → List Float → Controller → Stepped
+unfoldable pub exactFrame : Limits → List ℤ → ℕ → List Float → Controller → Stepped
 exactFrame = frameBy exactPredicted

@@ -19,7 +19,7 @@ use Rattle.claims.specs.Unmarked.{PeakFits}
 
 -- no other call compares levels
 abbrev pub exactStep : Controller → Call → Stepped
-exactStep c (frame volumes samples lent) = exactFrame volumes samples lent c
+exactStep c (frame most volumes samples lent) = exactFrame most volumes samples lent c
 exactStep c (recommendation probability level) = step c (recommendation probability level)
 exactStep c initialise = step c initialise
 exactStep c (captureSwitch on) = step c (captureSwitch on)

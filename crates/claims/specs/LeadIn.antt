@@ -16,6 +16,7 @@ use Rattle.clipping_predictor.specs.Estimate.{wholeDb}
 use Rattle.clipping_predictor.specs.Predictor.{levelsOf}
 use Rattle.mono_input_volume_controller.specs.declared.speech_level.SpeechLevel.{SpeechLevel}
 use Rattle.clipping_predictor_level_buffer.specs.Clipped.{isClipped, oneIf}
+use Rattle.input_volume_controller.specs.declared.limits.Limits.{Limits}
 use Rattle.input_volume_controller.specs.Calls.{Call, frame, recommendation, initialise, captureSwitch}
 use Rattle.claims.specs.Past.{isAccepted}
 
@@ -28,7 +29,7 @@ all f (x ∷ xs) = f x && all f xs
 
 -- how many accepted frames a call is, and how many a list of calls has
 unfoldable pub acceptedBy : ℕ → Call → ℕ
-acceptedBy channels (frame volumes samples lent) = oneIf (isAccepted channels volumes samples lent)
+acceptedBy channels (frame most volumes samples lent) = oneIf (isAccepted most channels volumes samples lent)
 acceptedBy channels (recommendation probability level) = 0
 acceptedBy channels initialise = 0
 acceptedBy channels (captureSwitch on) = 0
@@ -39,7 +40,7 @@ acceptedIn channels (call ∷ calls) = acceptedBy channels call + acceptedIn cha
 
 -- "Refused frames may stand anywhere.": a refused frame
 unfoldable pub isRefused : ℕ → Call → Bool
-isRefused channels (frame volumes samples lent) = not (isAccepted channels volumes samples lent)
+isRefused channels (frame most volumes samples lent) = not (isAccepted most channels volumes samples lent)
 isRefused channels (recommendation probability level) = false
 isRefused channels initialise = false
 isRefused channels (captureSwitch on) = false
@@ -76,7 +77,7 @@ quietFor p channels samples lent = all isSound lent && all (isLow p) (levelsOf c
 module _ (channels : ℕ) (isStill : ℕ → List Float → Bool) where
   -- "any list of these calls without a switching off, in which every accepted frame is quiet": each of its calls
   unfoldable pub isCalm : Call → Bool
-  isCalm (frame volumes samples lent) = not (isAccepted channels volumes samples lent) || isStill samples lent
+  isCalm (frame most volumes samples lent) = not (isAccepted most channels volumes samples lent) || isStill samples lent
   isCalm (recommendation probability level) = true
   isCalm initialise = true
   isCalm (captureSwitch on) = on
@@ -87,7 +88,8 @@ module _ (channels : ℕ) (isStill : ℕ → List Float → Bool) where
     pub body : List Call
     -- refused frames
     pub afterInitialise : List Call
-    -- the last frame
+    -- the last frame, and the limits of its entry
+    pub most : Limits
     pub volumes : List ℕ
     pub samples : ℕ
     pub lent : List Float
@@ -98,7 +100,7 @@ module _ (channels : ℕ) (isStill : ℕ → List Float → Bool) where
     pub afterRecommendation : List Call
     pub calm : T (all isCalm body)
     pub long : enough ≤ acceptedIn channels body
-    pub accepted : T (isAccepted channels (map pos volumes) samples lent)
+    pub accepted : T (isAccepted most channels (map pos volumes) samples lent)
     pub still : T (isStill samples lent)
     -- "every volume positive"
     pub positive : T (all (leb 1) volumes)
@@ -109,5 +111,5 @@ module _ (channels : ℕ) (isStill : ℕ → List Float → Bool) where
   callsOf l =
       captureSwitch true ∷ (l .body
       ++ (initialise ∷ (l .afterInitialise
-      ++ (frame (map pos (l .volumes)) (l .samples) (l .lent) ∷ (l .afterFrame
+      ++ (frame (l .most) (map pos (l .volumes)) (l .samples) (l .lent) ∷ (l .afterFrame
       ++ (recommendation (l .probability) (l .level) ∷ l .afterRecommendation))))))

@@ -31,6 +31,7 @@ pub mod Exact
 pub mod ExactFrame
 pub mod Unmarked
 pub mod ExactRun
+pub mod ShortFrames
 pub mod Needed
 pub mod ExampleLines
 pub mod Claims

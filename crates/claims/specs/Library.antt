@@ -10,6 +10,7 @@ use Rattle.clipping_predictor_level_buffer.specs.declared.level.Level.{Level}
 use Rattle.clipping_predictor.specs.declared.settings.ClippingPredictorConfig.{ClippingPredictorConfig}
 use Rattle.mono_input_volume_controller.specs.declared.config.Config.{Config}
 use Rattle.mono_input_volume_controller.specs.declared.speech_level.SpeechLevel.{SpeechLevel}
+use Rattle.input_volume_controller.specs.declared.limits.Limits.{Limits}
 use Rattle.input_volume_controller.specs.declared.plain.PlainControl.{PlainControl}
 use Rattle.input_volume_controller.specs.Plain.{wholeControl}
 use Rattle.input_volume_controller.specs.Controller.{viewOf, Good}
@@ -36,7 +37,7 @@ pub data Numbers : Type 0 where
   nothing : Numbers
 
 abbrev pub inNumbers : Call → Reply → Numbers
-inNumbers (frame volumes samples lent) says = ofFrame (frameNumbers says)
+inNumbers (frame most volumes samples lent) says = ofFrame (frameNumbers says)
 inNumbers (recommendation probability level) says = ofRecommendation (volumeNumbers says)
 inNumbers initialise says = nothing
 inNumbers (captureSwitch on) says = nothing
@@ -52,9 +53,10 @@ abbrev pub withState : PlainControl → Agc2Controller → Agc2Controller
 withState state c = withControl (record { present = c .control .present; volume = c .control .volume; control = state }) c
 
 pub data LibraryCall : Agc2Controller → Call → Numbers → Agc2Controller → Type 0 where
-  -- `agc2_analyze_input_audio_into`: its contract `AnalyzedOf` is this at the volumes that its frame stands for (`volumesOf`), one for each channel, or the same for all
-  framed : {c d : Agc2Controller} {volumes : List ℤ} {samples : ℕ} {lent : List Float} → AnalyzedEachOf (wholeOf c) volumes samples lent d
-      → LibraryCall c (frame volumes samples lent) (ofFrame (record { refusal = d .refusal; near = d .near })) d
+  -- `agc2_analyze_input_audio_each_into` and `agc2_spotter_analyze_input_audio_each_into`, each with its limits; `agc2_analyze_input_audio_into` and `agc2_spotter_analyze_input_audio_into` are these at equal
+  -- volumes (`AnalyzedOf`)
+  framed : {c d : Agc2Controller} {most : Limits} {volumes : List ℤ} {samples : ℕ} {lent : List Float} → AnalyzedEachOf most (wholeOf c) volumes samples lent d
+      → LibraryCall c (frame most volumes samples lent) (ofFrame (record { refusal = d .refusal; near = d .near })) d
   recommended : {c : Agc2Controller} {control : Agc2Control} {probability : Float} {level : SpeechLevel} → RecommendedOf (wholeControl (c .control .control)) probability level control
       → LibraryCall c (recommendation probability level) (ofRecommendation (record { present = control .present; volume = control .volume })) (withControl control c)
   initialised : {c : Agc2Controller} {state : PlainControl} → ControlDoes (wholeControl (c .control .control)) initialise done (wholeControl state)

@@ -9,6 +9,7 @@ use lib.Ieee.{Float}
 use lib.ListN.{length, getD}
 use Rattle.mono_input_volume_controller.specs.declared.speech_level.SpeechLevel.{SpeechLevel}
 use Rattle.input_volume_controller.specs.declared.Applied.the-variants.{Volume}
+use Rattle.input_volume_controller.specs.declared.limits.Limits.{Limits}
 use Rattle.input_volume_controller.specs.Controller.{Controller}
 use Rattle.input_volume_controller.specs.Reply.{volume}
 use Rattle.input_volume_controller.specs.Calls.{frame, recommendation, step}
@@ -28,5 +29,5 @@ pub record HasLowest (volumes : List ℤ) (c : Controller) : Type 0 where
 
 -- THE CLAIM, after every accepted frame of a controller with a channel
 abbrev pub LowestIsApplied : Type 0
-LowestIsApplied = (c : Controller) (volumes : List ℤ) (samples : ℕ) (lent : List Float) → 1 ≤ length (c .control .channels) → T (isAccepted (length (c .control .channels)) volumes samples lent)
-    → HasLowest volumes (step c (frame volumes samples lent) .state)
+LowestIsApplied = (c : Controller) (most : Limits) (volumes : List ℤ) (samples : ℕ) (lent : List Float) → 1 ≤ length (c .control .channels) → T (isAccepted most (length (c .control .channels)) volumes samples lent)
+    → HasLowest volumes (step c (frame most volumes samples lent) .state)

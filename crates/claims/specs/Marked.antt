@@ -3,7 +3,7 @@
 -- "sides 10 apart or less", "within 10 of a whole dB from 0 to 14", "Infinite, not-a-number or missing sides are never near", where each 10 is 6 by document 02 (x). Here these words stand by themselves:
 -- which drops an estimate may have, if each near comparison may be answered either way and each near ceiling taken on either side, with the number 6, and no tree.
 -- They reach the code by the contracts of `ClippingPredictor::estimate_clipped_level_step`, whose mark is `isNear` of the estimate, and of `InputVolumeController::{analyze_input_audio,
--- analyze_input_audio_each}`, whose answer is the reply of `step`. Definitions only.
+-- analyze_input_audio_each, spotter_analyze_input_audio, spotter_analyze_input_audio_each}`, whose answer is the reply of `step`. Definitions only.
 use mathlib.Core.Path.{_≡_}
 use mathlib.Core.Logic.{_⊎_, _↔_}
 use mathlib.Core.Bool.{Bool, true, false, cond}
@@ -31,6 +31,8 @@ use Rattle.clipping_predictor.specs.Estimate.{dropBy, adaptiveDrop, crestFactor
 use Rattle.clipping_predictor.specs.Predictor.{Predictor, enteredIf}
 use Rattle.mono_input_volume_controller.specs.declared.speech_level.SpeechLevel.{SpeechLevel}
 use Rattle.mono_input_volume_controller.specs.Config.{defaults, settingsFrom}
+use Rattle.input_volume_controller.specs.declared.limits.Limits.{Limits}
+use Rattle.input_volume_controller.specs.Limits.{plainLimits}
 use Rattle.input_volume_controller.specs.ControlCalls.{withAppliedInputVolumes}
 use Rattle.input_volume_controller.specs.Controller.{Controller, freshWith, fresh}
 use Rattle.input_volume_controller.specs.Reply.{Reply, mark, Stepped}
@@ -124,21 +126,21 @@ abbrev pub predictedAs : List ℕ → Asked → Predictor → Estimated
 predictedAs drops a p = only (foldl max 0 drops)
 
 -- the frame's own definition, with them
-abbrev pub frameWith : List ℕ → List ℤ → ℕ → List Float → Controller → Stepped
+abbrev pub frameWith : List ℕ → Limits → List ℤ → ℕ → List Float → Controller → Stepped
 frameWith drops = frameBy (predictedAs drops)
 
 -- "putting a near comparison or ceiling on its other side, one or several at once, would change the frame's returned state": there are drops that the channels' estimates may have, once the volumes are
 -- applied and the frame is in the rings, with which the frame returns another state
-pub record FrameMatters (c : Controller) (volumes : List ℕ) (samples : ℕ) (lent : List Float) : Type 0 where
+pub record FrameMatters (c : Controller) (most : Limits) (volumes : List ℕ) (samples : ℕ) (lent : List Float) : Type 0 where
   pub drops : List ℕ
   pub may : Each (λ (records : List Level). MayEstimate (c .predictor .settings) records (askedOf (withAppliedInputVolumes volumes (c .control)))) (enteredIf true samples lent (c .predictor) .rings) drops
-  pub changes : frameWith drops (map pos volumes) samples lent c .state ≡ step c (frame (map pos volumes) samples lent) .state → ⊥
+  pub changes : frameWith drops most (map pos volumes) samples lent c .state ≡ step c (frame most (map pos volumes) samples lent) .state → ⊥
 
 -- ---- six frames
 
 -- a frame of one sample, and the reply to one that comes after so many others like it on a fresh controller of one channel with the default settings. With the tenth its windows are full.
 abbrev pub frameOf : ℕ → Call
-frameOf sample = frame (pos 100 ∷ []) 1 (ofInt binary32 (pos sample) ∷ [])
+frameOf sample = frame plainLimits (pos 100 ∷ []) 1 (ofInt binary32 (pos sample) ∷ [])
 
 abbrev pub replyAfter : ℕ → ℕ → Reply
 replyAfter count sample = step (after (fresh (settingsFrom defaults) 1) (replicate count (frameOf sample))) (frameOf sample) .reply
@@ -154,10 +156,10 @@ replyToSilence margin = step (after (freshWith (eventWith margin) (settingsFrom 
 pub record MarkedExactly : Type 0 where
   pub estimate : (s : Settings) (records : List Level) (a : Asked)
       → (isNear (estimated (estimateTree s records a)) ≡ true) ↔ EstimateMatters s records a (estimated (estimateTree s records a) .drop)
-  pub frames : (c : Controller) (volumes : List ℕ) (samples : ℕ) (lent : List Float) → T (isAccepted (length (c .control .channels)) (map pos volumes) samples lent)
-      → (step c (frame (map pos volumes) samples lent) .reply ≡ mark true) ↔ FrameMatters c volumes samples lent
-  pub answered : (c : Controller) (volumes : List ℕ) (samples : ℕ) (lent : List Float) → T (isAccepted (length (c .control .channels)) (map pos volumes) samples lent)
-      → (near : Bool) × (step c (frame (map pos volumes) samples lent) .reply ≡ mark near)
+  pub frames : (c : Controller) (most : Limits) (volumes : List ℕ) (samples : ℕ) (lent : List Float) → T (isAccepted most (length (c .control .channels)) (map pos volumes) samples lent)
+      → (step c (frame most (map pos volumes) samples lent) .reply ≡ mark true) ↔ FrameMatters c most volumes samples lent
+  pub answered : (c : Controller) (most : Limits) (volumes : List ℕ) (samples : ℕ) (lent : List Float) → T (isAccepted most (length (c .control .channels)) (map pos volumes) samples lent)
+      → (near : Bool) × (step c (frame most (map pos volumes) samples lent) .reply ≡ mark near)
   pub recommendations : (c : Controller) (probability : Float) (level : SpeechLevel) (near : Bool) → step c (recommendation probability level) .reply ≡ mark near → ⊥
   -- a peak of 29,226 has the level -994, which is 6 above the threshold, and so has its P: near, and a turn would predict nothing; one of 29,229 has -993, 7 above it, and is not near; with a frame
   -- fewer metrics are missing, and nothing is compared; and one of 32,766 has a P of -1, near 0 dB, but the ceilings 0 and 1 both lead to the default step

@@ -16,9 +16,9 @@ use Rattle.claims.specs.Sharp.{waiting}
 -- ---- a lead-in with one part changed
 
 module _ {channels enough : ℕ} (l : LeadIn channels quiet enough) where
-  -- from the last frame on, at these volumes
+  -- from the last frame on, through its entry, at these volumes
   abbrev pub endingAt : List ℕ → List Call
-  endingAt volumes = frame (map pos volumes) (l .samples) (l .lent) ∷ (l .afterFrame ++ (recommendation (l .probability) (l .level) ∷ l .afterRecommendation))
+  endingAt volumes = frame (l .most) (map pos volumes) (l .samples) (l .lent) ∷ (l .afterFrame ++ (recommendation (l .probability) (l .level) ∷ l .afterRecommendation))
 
   abbrev pub withoutInitialise : List Call
   withoutInitialise = captureSwitch true ∷ (l .body ++ (l .afterInitialise ++ endingAt (l .volumes)))

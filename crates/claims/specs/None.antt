@@ -1,6 +1,7 @@
 -- None. Document 01: 'The recommendation is "none" exactly if no frame was accepted since the making, the last initialise, or the last recommendation with capture on, whichever came latest.'
--- It reaches the code by the contracts of `InputVolumeController::{new, with_predictor, analyze_input_audio, analyze_input_audio_each, recommend_input_volume, initialize,
--- handle_capture_output_used_change}`: the first two hand back the fresh controller (`CreatedOf`, `CreatedWith`), each other one step of the definition, and its reply (`Does`), so a run of the functions is a run of `after` (Run.antt). Definitions only.
+-- It reaches the code by the contracts of `InputVolumeController::{new, with_predictor, analyze_input_audio, analyze_input_audio_each, spotter_analyze_input_audio, spotter_analyze_input_audio_each,
+-- recommend_input_volume, initialize, handle_capture_output_used_change}`: the first two hand back the fresh controller (`CreatedOf`, `CreatedWith`), each other one step of the definition, and its reply (`Does`),
+-- so a run of the functions is a run of `after` (Run.antt). Definitions only.
 use mathlib.Core.Path.{_≡_}
 use mathlib.Core.Bool.{Bool, true, false, not, _&&_, _||_}
 use mathlib.Core.Logic.{_↔_}
@@ -17,7 +18,7 @@ use Rattle.claims.specs.Past.{captureOn, isAccepted}
 
 -- a frame was accepted since the latest of the three, looked for from the newest call back
 unfoldable pub frameSince : ℕ → List Call → Bool
-frameSince channels (frame volumes samples lent ∷ before) = isAccepted channels volumes samples lent || frameSince channels before
+frameSince channels (frame most volumes samples lent ∷ before) = isAccepted most channels volumes samples lent || frameSince channels before
 frameSince channels (captureSwitch on ∷ before) = frameSince channels before
 -- a recommendation with capture off is passed over
 frameSince channels (recommendation probability level ∷ before) = not (captureOn true before) && frameSince channels before

@@ -1,6 +1,6 @@
 -- One volume for all channels. Document 01's frame has one volume, and document 02 (xiv) "the volumes of all channels as one set in place of its one volume". The entries with one volume
 -- (`InputVolumeController::analyze_input_audio`, a frame of the static library with one, a frame line) are defined as the set of equal volumes (`AnalyzedOf`). Here stands document 01's frame, and the claim that it is
--- what they do. Definitions only.
+-- what they do; the spotter's entry with one volume differs from them by cause 18 alone (`ShortFrames`). Definitions only.
 use mathlib.Core.Path.{_≡_}
 use mathlib.Core.Bool.{Bool, true, false}
 use mathlib.Core.List.{List}
@@ -12,12 +12,13 @@ use Rattle.numbers.specs.declared.natural.Natural.{Natural}
 use Rattle.numbers.specs.declared.natural.Natural.the-variants.{Number, Outside}
 use Rattle.numbers.specs.declared.refusal.Refusal.the-variants.{InputVolume, FrameSize}
 use Rattle.numbers.specs.Natural.{withinOf}
-use Rattle.clipping_predictor.specs.Predictor.{frameFits}
+use Rattle.clipping_predictor.specs.Predictor.{maxChannels, frameFits}
 use Rattle.clipping_predictor.specs.AllRings.{predictedBy}
 use Rattle.mono_input_volume_controller.specs.MonoState.{maxInputVolume}
 use Rattle.input_volume_controller.specs.declared.channels.ChannelCall.the-variants.{StreamAnalogLevel}
 use Rattle.input_volume_controller.specs.declared.Applied.the-variants.{Volume}
 use Rattle.input_volume_controller.specs.Volumes.{equalVolumes}
+use Rattle.input_volume_controller.specs.Limits.{plainLimits}
 use Rattle.input_volume_controller.specs.Control.{Control, withApplied, eachChannel}
 use Rattle.input_volume_controller.specs.ControlCalls.{aggregated}
 use Rattle.input_volume_controller.specs.Controller.{Controller}
@@ -41,7 +42,7 @@ unfoldable pub analyzeWithOneVolume : ℤ → ℕ → List Float → Controller 
 unfolding predictedBy
 analyzeWithOneVolume volume samples lent c = unlessOneRefused (withinOf 0 maxInputVolume volume) (frameFits (length (c .control .channels)) samples lent) samples lent c
 
--- THE CLAIM, of every controller with a channel; none that is made is without
+-- THE CLAIM, of the plain entry and every controller with 1 to 8 channels; none that is made has others
 abbrev pub OneVolume : Type 0
-OneVolume = (c : Controller) (volume : ℤ) (samples : ℕ) (lent : List Float) → 1 ≤ length (c .control .channels)
-    → step c (frame (equalVolumes volume (length (c .control .channels))) samples lent) ≡ analyzeWithOneVolume volume samples lent c
+OneVolume = (c : Controller) (volume : ℤ) (samples : ℕ) (lent : List Float) → 1 ≤ length (c .control .channels) → length (c .control .channels) ≤ maxChannels
+    → step c (frame plainLimits (equalVolumes volume (length (c .control .channels))) samples lent) ≡ analyzeWithOneVolume volume samples lent c

@@ -1,8 +1,8 @@
 -- A refused call changes nothing, for every call, state and input, and the number is the first cause in the table's order that holds. Document 01: "A call tests the causes about its own
 -- inputs .. in rising number, and returns the first that holds. On 1 to 7 nothing is made; 8, 9, .. leave the whole state as before"; document 02 (ii) and (iv) put 14 and 15 behind 7, and (xiv)
--- tests 20, then 8, then 9 of a frame. It reaches the code by the contracts of `InputVolumeController::{new, with_predictor, analyze_input_audio, analyze_input_audio_each, recommend_input_volume, initialize,
--- handle_capture_output_used_change}`: what the makings hand back is `makingOf` and `makingWith` (`CreatedOf`, `CreatedWith`), each other call one `step` (`Does`); and a refused frame hands back the very struct
--- (`AnalyzedEachOf`, `same`), its unused places too. Definitions only.
+-- tests 20, then 8, then 9 of a frame, (viii) 18 last. It reaches the code by the contracts of `InputVolumeController::{new, with_predictor, analyze_input_audio, analyze_input_audio_each,
+-- spotter_analyze_input_audio, spotter_analyze_input_audio_each, recommend_input_volume, initialize, handle_capture_output_used_change}`: what the makings hand back is `makingOf` and `makingWith` (`CreatedOf`,
+-- `CreatedWith`), each other call one `step` (`Does`); and a refused frame hands back the very struct (`AnalyzedEachOf`, `same`), its unused places too. Definitions only.
 use mathlib.Core.Path.{_≡_}
 use mathlib.Core.List.{[]}
 use mathlib.Core.Option.{Option, none, some}

@@ -1,6 +1,7 @@
 -- How the claims reach the code. A run of the Rattle functions gives each call the controller that the last one handed back, and the contracts say of each call that it `Does` what the definition
--- does (`input_volume_controller/specs/Calls.antt`; the contracts stand in `input_volume_controller/src/lib.rt`, at `analyze_input_audio`, `analyze_input_audio_each`, `recommend_input_volume`,
--- `initialize` and `handle_capture_output_used_change`). So a run of the functions is a run of the definition: from the same start it ends where `after` ends, and answers what `answers` says. Definitions only.
+-- does (`input_volume_controller/specs/Calls.antt`; the contracts stand in `input_volume_controller/src/lib.rt`, at `analyze_input_audio`, `analyze_input_audio_each`, `spotter_analyze_input_audio`,
+-- `spotter_analyze_input_audio_each`, `recommend_input_volume`, `initialize` and `handle_capture_output_used_change`). So a run of the functions is a run of the definition: from the same start it ends where `after`
+-- ends, and answers what `answers` says. Definitions only.
 use mathlib.Core.Path.{_≡_}
 use mathlib.Core.List.{List, [], _∷_}
 use Rattle.input_volume_controller.specs.declared.InputVolumeController.{InputVolumeController}

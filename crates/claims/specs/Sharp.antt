@@ -16,9 +16,11 @@ use Rattle.clipping_predictor.specs.Settings as Predictors
 use Rattle.mono_input_volume_controller.specs.declared.config.Config.{Config}
 use Rattle.mono_input_volume_controller.specs.declared.config.Settings.{Settings}
 use Rattle.mono_input_volume_controller.specs.Config.{defaults, settingsFrom}
+use Rattle.input_volume_controller.specs.declared.limits.Limits.{Limits}
 use Rattle.input_volume_controller.specs.Controller.{Controller, basePredictor, freshWith, fresh, makingWith}
 use Rattle.input_volume_controller.specs.Reply.{Reply, mark, refusal, volume, none, done}
-use Rattle.input_volume_controller.specs.Calls.{frame, step}
+use Rattle.input_volume_controller.specs.Calls.{Call, frame, recommendation, initialise, captureSwitch, step}
+use Rattle.claims.specs.Every.{Every}
 use Rattle.claims.specs.Past.{isAccepted}
 use Rattle.claims.specs.LeadIn.{acceptedIn, quiet, comparedIn, quietFor, LeadIn, callsOf}
 use Rattle.claims.specs.TwoPasts.{AlikeAfter, RatioFromZero, enough, enoughFor}
@@ -34,22 +36,34 @@ isRefusal done = false
 -- "accepted is not refused": a frame's reply is a refusal exactly where `isAccepted` fails
 abbrev pub AcceptedIsNotRefused : Type 0
 AcceptedIsNotRefused =
-    (c : Controller) (volumes : List ℤ) (samples : ℕ) (lent : List Float)
-    → isRefusal (step c (frame volumes samples lent) .reply) ≡ not (isAccepted (length (c .control .channels)) volumes samples lent)
+    (c : Controller) (most : Limits) (volumes : List ℤ) (samples : ℕ) (lent : List Float)
+    → isRefusal (step c (frame most volumes samples lent) .reply) ≡ not (isAccepted most (length (c .control .channels)) volumes samples lent)
 
--- a lead-in with exactly as many accepted frames
-abbrev pub LeadInOf : ℕ → (ℕ → List Float → Bool) → ℕ → Type 0
-LeadInOf channels isStill frames = (l : LeadIn channels isStill frames) × (acceptedIn channels (l .body) ≡ frames)
+-- a frame comes through an entry with these limits
+abbrev pub Through : Limits → Call → Type 0
+Through most (frame limits volumes samples lent) = limits ≡ most
+Through most (recommendation probability level) = Unit {0}
+Through most initialise = Unit {0}
+Through most (captureSwitch on) = Unit {0}
+
+-- a lead-in with exactly as many accepted frames, all through one entry
+abbrev pub LeadInOf : Limits → ℕ → (ℕ → List Float → Bool) → ℕ → Type 0
+LeadInOf most channels isStill frames = (l : LeadIn channels isStill frames) × (acceptedIn channels (l .body) ≡ frames) × Every (Through most) (callsOf channels isStill l)
+
+-- limits that take a frame of one sample for each channel
+abbrev pub TakesOneSample : Limits → ℕ → Type 0
+TakesOneSample most channels = (channels ≤ most .channels) × (1 ≤ most .samples)
 
 -- the level of silence, the least that there is
 abbrev pub silent : ℤ
 silent = negsuc 90309
 
--- for all settings and every channel count there is a lead-in with exactly as many accepted frames as the claim asks; and so for every predictor whose threshold silence does not pass. Where it does, no frame
--- is quiet, and the claim says nothing
+-- for all settings, every channel count and every entry whose limits take a frame of one sample for each channel (the plain one: up to 8 channels; the spotter's: up to 2) there is a lead-in through that entry with
+-- exactly as many accepted frames as the claim asks; and so for every predictor whose threshold silence does not pass. Where it does, no frame is quiet, and the claim says nothing
 pub record LeadInsExist : Type 0 where
-  pub own : (s : Settings) (channels : ℕ) → LeadInOf channels quiet (enough s)
-  pub in-every-mode : (p : Predictor.Settings) (s : Settings) (channels : ℕ) → T (leZ silent (comparedIn (p .mode) (p .threshold))) → LeadInOf channels (quietFor p channels) (enoughFor p s)
+  pub own : (s : Settings) (most : Limits) (channels : ℕ) → TakesOneSample most channels → LeadInOf most channels quiet (enough s)
+  pub in-every-mode : (p : Predictor.Settings) (s : Settings) (most : Limits) (channels : ℕ) → TakesOneSample most channels → T (leZ silent (comparedIn (p .mode) (p .threshold)))
+      → LeadInOf most channels (quietFor p channels) (enoughFor p s)
   pub none-below : (p : Predictor.Settings) (channels samples : ℕ) (lent : List Float) → 1 ≤ channels → T (ltZ (comparedIn (p .mode) (p .threshold)) silent) → quietFor p channels samples lent ≡ false
 
 -- the frame after the initialise is quiet and enters the rings too, so with one accepted frame fewer before it the claim holds as well, and so does its general form

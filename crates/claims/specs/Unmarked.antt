@@ -1,6 +1,6 @@
 -- Unmarked means exact. `estimateTree` of the clipping predictor is what the code does (the contracts of `ClippingPredictor::estimate_clipped_level_step` and `InputVolumeController::{analyze_input_audio,
--- analyze_input_audio_each}` rest on it): its tests compare rounded levels. `exactDrop` and `exactFrame` compare exact ones. Demand 2 lets a marked call alone depart, and document 02 (iii) narrows that: a frame whose state no turn of near
--- comparisons could change is unmarked, and its state is the exact one. Definitions only.
+-- analyze_input_audio_each, spotter_analyze_input_audio, spotter_analyze_input_audio_each}` rest on it): its tests compare rounded levels. `exactDrop` and `exactFrame` compare exact ones. Demand 2 lets a marked
+-- call alone depart, and document 02 (iii) narrows that: a frame whose state no turn of near comparisons could change is unmarked, and its state is the exact one. Definitions only.
 use mathlib.Core.Path.{_≡_}
 use mathlib.Core.Bool.{false}
 use mathlib.Core.List.{List}
@@ -13,6 +13,7 @@ use Rattle.clipping_predictor.specs.declared.settings.Settings.{Settings}
 use Rattle.clipping_predictor.specs.declared.modes.Asked.{Asked}
 use Rattle.clipping_predictor.specs.Turned.{estimated, isNear}
 use Rattle.clipping_predictor.specs.Estimate.{estimateTree}
+use Rattle.input_volume_controller.specs.declared.limits.Limits.{Limits}
 use Rattle.input_volume_controller.specs.Controller.{Controller}
 use Rattle.input_volume_controller.specs.Reply.{mark}
 use Rattle.input_volume_controller.specs.Calls.{frame, step, Typed}
@@ -33,5 +34,5 @@ pub record UnmarkedIsExact : Type 0 where
   pub estimate : (s : Settings) (records : List Level) (a : Asked) → Every PeakFits records → isNear (estimated (estimateTree s records a)) ≡ false
       → estimated (estimateTree s records a) .drop ≡ exactDrop s records a
   -- and an unmarked frame returns the exact state, whatever its estimates are
-  pub frames : (c : Controller) (volumes : List ℤ) (samples : ℕ) (lent : List Float) → Every (Every PeakFits) (c .predictor .rings) → Typed (frame volumes samples lent)
-      → step c (frame volumes samples lent) .reply ≡ mark false → step c (frame volumes samples lent) .state ≡ exactFrame volumes samples lent c .state
+  pub frames : (c : Controller) (most : Limits) (volumes : List ℤ) (samples : ℕ) (lent : List Float) → Every (Every PeakFits) (c .predictor .rings) → Typed (frame most volumes samples lent)
+      → step c (frame most volumes samples lent) .reply ≡ mark false → step c (frame most volumes samples lent) .state ≡ exactFrame most volumes samples lent c .state

@@ -18,7 +18,7 @@ use Rattle.numbers.proofs.Ranges.{inside}
 use Rattle.clipping_predictor_level_buffer.specs.Level.{maxSamplesPerChannel, isFrameSize}
 use Rattle.clipping_predictor.specs.Predictor.{frameFits}
 use Rattle.mono_input_volume_controller.specs.MonoState.{maxInputVolume}
-use Rattle.input_volume_controller.specs.Frame.{unlessRefused, analyzeInputAudio}
+use Rattle.input_volume_controller.specs.Frame.{testedAs, unlessRefused, analyzeInputAudio}
 use Rattle.mono_input_volume_controller.specs.declared.speech_level.SpeechLevel.{SpeechLevel}
 use Rattle.input_volume_controller.specs.declared.Analysis.{Analysis}
 use Rattle.input_volume_controller.specs.declared.Analysis.the-variants as Analysis
@@ -26,7 +26,8 @@ use Rattle.input_volume_controller.specs.declared.Analyzed.{Analyzed}
 use Rattle.input_volume_controller.specs.declared.InputVolumeController.{InputVolumeController}
 use Rattle.input_volume_controller.specs.Controller.{Controller, viewOf, Good}
 use Rattle.input_volume_controller.specs.Reply.{Reply, mark, refusal, analysisSays}
-use Rattle.input_volume_controller.specs.Volumes.{equalVolumes, numberSet, numbersOf}
+use Rattle.input_volume_controller.specs.Volumes.{equalVolumes, numberSet, areNumbers, numbersOf, numbersIn}
+use Rattle.input_volume_controller.specs.Limits.{plainLimits, isWithin}
 use Rattle.input_volume_controller.specs.Calls.{Call, frame, recommendation, step, AnalyzedOf}
 use Rattle.input_volume_controller.proofs.Whole.{control-count}
 use Rattle.frame_lines.specs.declared.answer.Reply.the-variants.{Refused}
@@ -77,11 +78,13 @@ line-numbers : (v k : ℕ) → v < 256 → numbersOf (equalVolumes (pos v) k) �
 line-numbers v k h = equal-numbers (pos v) v k (sym (inside 0 maxInputVolume (pos v) (le-ltb v 0 (omega arith)) (omega arith) (omega arith)))
 
 unfit : (c : Controller) (v n : ℕ) (lent : List Float) → v < 256 → isFrameSize n ≡ false
-    → step c (frame (equalVolumes (pos v) (length (c .control .channels))) n lent) .reply ≡ refusal (numberOf FrameSize)
+    → step c (frame plainLimits (equalVolumes (pos v) (length (c .control .channels))) n lent) .reply ≡ refusal (numberOf FrameSize)
 unfolding analyzeInputAudio
 unfit c v n lent h e =
     let k = length (c .control .channels) in
-    λ i. unlessRefused (eq-eqb (length (equalVolumes (pos v) k)) k (length-replicate k (pos v)) i) (line-numbers v k h i) (misfits k n lent e i) n lent c .reply
+    let counted = eq-eqb (length (equalVolumes (pos v) k)) k (length-replicate k (pos v)) in
+    let numbers = line-numbers v k h in
+    λ i. unlessRefused (testedAs (counted i) (areNumbers (numbers i)) (misfits k n lent e i) (isWithin plainLimits k n)) (numbersIn (numbers i)) n lent c .reply
 
 -- ---- what the calls say
 
@@ -133,22 +136,22 @@ pub few : (line : List ℕ) (after : List Float) (v : ℕ) (p : Float) (l : Spee
 few line after v p l n f = omega (arith, f .count-is, few-samples line (f .meant) (f .means))
 
 pub makes-calls : (channels : ℕ) (line : List ℕ) (after : List Float) (v : ℕ) (p : Float) (l : SpeechLevel) (n : ℕ) → FrameOf line after v p l n
-    → Makes channels line (frame (equalVolumes (pos v) channels) (length (take n after)) (take n after)) (recommendation p l)
+    → Makes channels line (frame plainLimits (equalVolumes (pos v) channels) (length (take n after)) (take n after)) (recommendation p l)
 makes-calls channels line after v p l n f =
     let count : length (take n after) ≡ length (f .meant .samples) = ap length (f .samples-are) ∙ length-map (f .meant .samples) sampleOf in
     record {
       meant = f .meant;
       means = f .means;
-      frame-is = λ i. frame (equalVolumes (pos (f .volume-is i)) channels) (count i) (f .samples-are i);
+      frame-is = λ i. frame plainLimits (equalVolumes (pos (f .volume-is i)) channels) (count i) (f .samples-are i);
       recommendation-is = λ i. recommendation (f .probability-is i) (f .level-is i);
     }
 
-module _ (self : InputVolumeController) (z : ℤ) (n : ℕ) (lent : List Float) (a : Analyzed) (h : AnalyzedOf self z n lent a) (p : Float) (l : SpeechLevel) where
+module _ (self : InputVolumeController) (z : ℤ) (n : ℕ) (lent : List Float) (a : Analyzed) (h : AnalyzedOf plainLimits self z n lent a) (p : Float) (l : SpeechLevel) where
   abbrev channels : ℕ
   channels = self .control .channels .count
 
   abbrev heard : Call
-  heard = frame (equalVolumes z channels) n lent
+  heard = frame plainLimits (equalVolumes z channels) n lent
 
   module _ (line : List ℕ) (m : Makes channels line heard (recommendation p l)) where
     call-is : heard ≡ frameCall (length (viewOf self .control .channels)) (m .meant)
@@ -172,7 +175,7 @@ module _ (self : InputVolumeController) (z : ℤ) (n : ℕ) (lent : List Float) 
     pub pending-after : VolumePending (viewOf (a .controller))
     pending-after =
         subst VolumePending (sym (h .does .view))
-        (frame-pending (viewOf self) (equalVolumes z (self .control .channels .count)) n lent near (sym (h .does .reply) ∙ ap analysisSays q))
+        (frame-pending (viewOf self) plainLimits (equalVolumes z (self .control .channels .count)) n lent near (sym (h .does .reply) ∙ ap analysisSays q))
 
     pub accepted-as : (r : Answered) → RecommendedAs (a .controller) near p l r → FrameAnsweredAs self heard (recommendation p l) r
     accepted-as r d line m = record {

@@ -2,13 +2,15 @@
 use mathlib.Core.Path.{_≡_, refl, ap, _∙_}
 use mathlib.Core.Bool.{Bool, true, false, _||_}
 use mathlib.Core.List.{List}
-use Prim.Native.Nat.{ℕ, _≤_, max}
+use Prim.Native.Nat.{ℕ, _≤_, max, zero-le}
 use native.Mathlib.Omega.{arith}
-use lib.Dec.{ltb, eqb}
+use lib.Dec.{ltb}
 use lib.IntN.{ℤ, pos}
 use lib.Ieee.{Float, lt}
 use lib.ListN.{length}
-use Rattle.clipping_predictor.specs.Predictor.{frameFits, enteredIf}
+use Rattle.numbers.specs.declared.refusal.Outcome.{Outcome}
+use Rattle.numbers.specs.declared.refusal.Outcome.the-variants.{Accepted, Refused}
+use Rattle.clipping_predictor.specs.Predictor.{enteredIf}
 use Rattle.mono_input_volume_controller.specs.declared.speech_level.SpeechLevel.{SpeechLevel}
 use Rattle.mono_input_volume_controller.specs.MonoState.{maxInputVolume}
 use Rattle.input_volume_controller.specs.declared.Applied.the-variants as Applied
@@ -20,8 +22,9 @@ use Rattle.input_volume_controller.specs.Reply.{Reply, mark, refusal, volume, n
 use Rattle.input_volume_controller.specs.ClippedRatio.{clippedRatio}
 use Rattle.clipping_predictor.specs.AllRings.{predictedBy}
 use Rattle.input_volume_controller.specs.Differ.{differ}
-use Rattle.input_volume_controller.specs.Volumes.{Volumes, outsideSet, numberSet, numbersOf, lowestOf}
-use Rattle.input_volume_controller.specs.Frame.{askedOf, handleIf, unlessWaiting, ifUsed, withVolumesApplied, unlessRefused, analyzeInputAudio}
+use Rattle.input_volume_controller.specs.declared.limits.Limits.{Limits}
+use Rattle.input_volume_controller.specs.Volumes.{Volumes, outsideSet, numberSet, numbersOf, numbersIn, lowestOf}
+use Rattle.input_volume_controller.specs.Frame.{askedOf, handleIf, unlessWaiting, ifUsed, withVolumesApplied, frameOutcome, unlessRefused, analyzeInputAudio}
 use Rattle.input_volume_controller.specs.Calls.{frame, recommendation, step, Does}
 use Rattle.input_volume_controller.proofs.Answers.{recommend-off, recommend-on}
 use Rattle.input_volume_controller.proofs.SetNumbers.{told-set, lowest-of-most}
@@ -61,15 +64,13 @@ used-tells true samples lent c =
     record { reply-is = w .reply-is; applied-is = w .applied-is }
 used-tells false samples lent c = record { reply-is = refl; applied-is = refl }
 
-refused-reply : (counted : Bool) (a : Volumes) (fits : Bool) (samples : ℕ) (lent : List Float) (c : Controller) → isFrameReply (unlessRefused counted a fits samples lent c .reply) ≡ true
-refused-reply false a fits samples lent c = refl
-refused-reply true outsideSet fits samples lent c = refl
-refused-reply true (numberSet v) false samples lent c = refl
-refused-reply true (numberSet v) true samples lent c = used-tells (c .control .used) samples lent (withVolumesApplied v c) .reply-is
+refused-reply : (o : Outcome) (v : List ℕ) (samples : ℕ) (lent : List Float) (c : Controller) → isFrameReply (unlessRefused o v samples lent c .reply) ≡ true
+refused-reply (Refused cause) v samples lent c = refl
+refused-reply Accepted v samples lent c = used-tells (c .control .used) samples lent (withVolumesApplied v c) .reply-is
 
-pub frame-reply : (c : Controller) (z : List ℤ) (samples : ℕ) (lent : List Float) → isFrameReply (step c (frame z samples lent) .reply) ≡ true
+pub frame-reply : (c : Controller) (most : Limits) (z : List ℤ) (samples : ℕ) (lent : List Float) → isFrameReply (step c (frame most z samples lent) .reply) ≡ true
 unfolding analyzeInputAudio
-frame-reply c z samples lent = refused-reply (eqb (length z) (length (c .control .channels))) (numbersOf z) (frameFits (length (c .control .channels)) samples lent) samples lent c
+frame-reply c most z samples lent = refused-reply (frameOutcome most (length (c .control .channels)) z samples lent) (numbersIn (numbersOf z)) samples lent c
 
 -- ---- an accepted frame's volume is pending
 
@@ -77,20 +78,27 @@ applies : (v : List ℕ) (c : Controller) → withVolumesApplied v c .control .a
 unfolding withAppliedInputVolumes aggregated
 applies v c = refl
 
-module _ (c : Controller) (z : List ℤ) (samples : ℕ) (lent : List Float) (near : Bool) where
-  pending-if : (counted : Bool) (a : Volumes) (fits : Bool) → numbersOf z ≡ a → unlessRefused counted a fits samples lent c .reply ≡ mark near → VolumePending (unlessRefused counted a fits samples lent c .state)
-  pending-if false a fits w e = let x : _≡_ {A = ℕ} 0 1 = cc in absurd (omega arith)
-  pending-if true outsideSet fits w e = let x : _≡_ {A = ℕ} 0 1 = cc in absurd (omega arith)
-  pending-if true (numberSet v) false w e = let x : _≡_ {A = ℕ} 0 1 = cc in absurd (omega arith)
-  pending-if true (numberSet v) true w e = record {
-    applied = lowestOf v;
-    pending = used-tells (c .control .used) samples lent (withVolumesApplied v c) .applied-is ∙ applies v c;
-    most = lowest-of-most v (told-set z v w .most);
+-- the numbers of a set are at most 255
+lowest-in : (z : List ℤ) (a : Volumes) → numbersOf z ≡ a → lowestOf (numbersIn a) ≤ maxInputVolume
+unfolding lowestOf
+lowest-in z outsideSet e = zero-le
+lowest-in z (numberSet v) e = lowest-of-most v (told-set z v e .most)
+
+module _ (c : Controller) (most : Limits) (z : List ℤ) (samples : ℕ) (lent : List Float) (near : Bool) where
+  abbrev volumes : List ℕ
+  volumes = numbersIn (numbersOf z)
+
+  pending-if : (o : Outcome) → unlessRefused o volumes samples lent c .reply ≡ mark near → VolumePending (unlessRefused o volumes samples lent c .state)
+  pending-if (Refused cause) e = let x : _≡_ {A = ℕ} 0 1 = cc in absurd (omega arith)
+  pending-if Accepted e = record {
+    applied = lowestOf volumes;
+    pending = used-tells (c .control .used) samples lent (withVolumesApplied volumes c) .applied-is ∙ applies volumes c;
+    most = lowest-in z (numbersOf z) refl;
   }
 
-  pub frame-pending : step c (frame z samples lent) .reply ≡ mark near → VolumePending (step c (frame z samples lent) .state)
+  pub frame-pending : step c (frame most z samples lent) .reply ≡ mark near → VolumePending (step c (frame most z samples lent) .state)
   unfolding analyzeInputAudio
-  frame-pending e = pending-if (eqb (length z) (length (c .control .channels))) (numbersOf z) (frameFits (length (c .control .channels)) samples lent) refl e
+  frame-pending e = pending-if (frameOutcome most (length (c .control .channels)) z samples lent) e
 
 -- ---- with a volume pending, the recommendation is a volume
 
@@ -103,11 +111,11 @@ volume-if c p l v true u = record { shown = _; is = ap (λ (s : Stepped). s .rep
 volume-if c p l v false u = record { shown = _; is = ap (λ (s : Stepped). s .reply) (recommend-off c p l (v .applied) (v .pending) u) }
 
 -- THE CLAIM: right after an accepted frame the recommendation is a volume, never none
-pub recommends-volume : (c : Controller) (z : List ℤ) (samples : ℕ) (lent : List Float) (near : Bool) (p : Float) (l : SpeechLevel)
-    → step c (frame z samples lent) .reply ≡ mark near → IsVolume (step (step c (frame z samples lent) .state) (recommendation p l) .reply)
-recommends-volume c z samples lent near p l e =
-    let after = step c (frame z samples lent) .state in
-    volume-if after p l (frame-pending c z samples lent near e) (after .control .used) refl
+pub recommends-volume : (c : Controller) (most : Limits) (z : List ℤ) (samples : ℕ) (lent : List Float) (near : Bool) (p : Float) (l : SpeechLevel)
+    → step c (frame most z samples lent) .reply ≡ mark near → IsVolume (step (step c (frame most z samples lent) .state) (recommendation p l) .reply)
+recommends-volume c most z samples lent near p l e =
+    let after = step c (frame most z samples lent) .state in
+    volume-if after p l (frame-pending c most z samples lent near e) (after .control .used) refl
 
 -- what the contract says of it: at most 255
 pub record AtMost (says : Reply) : Type 0 where

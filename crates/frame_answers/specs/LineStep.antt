@@ -11,15 +11,17 @@ use Rattle.input_volume_controller.specs.Controller.{Controller}
 use Rattle.input_volume_controller.specs.Reply.{Reply, mark, refusal, volume, done, Stepped}
 use Rattle.input_volume_controller.specs.Reply as Reply
 use Rattle.input_volume_controller.specs.Volumes.{equalVolumes}
+use Rattle.input_volume_controller.specs.Limits.{plainLimits}
 use Rattle.input_volume_controller.specs.Calls.{Call, frame, recommendation, step}
 use Rattle.frame_lines.specs.Line.{Fields, meaning}
 use Rattle.frame_lines.specs.Parsed.{floatOf, speechLevelOf, sampleOf}
 
 -- ---- the calls that a line makes
 
--- the line's volume is that of each channel, and the frame has as many samples per channel as the line has samples: a line is for one channel, and of more each line in order is refused with 9
+-- the frame comes through the plain entry. The line's volume is that of each channel, and the frame has as many samples per channel as the line has samples: a line is for one channel, and of more each
+-- line in order is refused with 9
 abbrev pub frameCall : ℕ → Fields → Call
-frameCall channels f = frame (equalVolumes (pos (f .volume)) channels) (length (f .samples)) (map sampleOf (f .samples))
+frameCall channels f = frame plainLimits (equalVolumes (pos (f .volume)) channels) (length (f .samples)) (map sampleOf (f .samples))
 
 abbrev pub recommendationCall : Fields → Call
 recommendationCall f = recommendation (floatOf (f .probability)) (speechLevelOf (f .level))

@@ -3,6 +3,7 @@ ghost use lib.IntN.{pos};
 ghost use lib.ListN.{length};
 ghost use Rattle.input_volume_controller.specs.Controller.{Good, viewOf};
 ghost use Rattle.input_volume_controller.specs.Volumes.{equalVolumes};
+ghost use Rattle.input_volume_controller.specs.Limits.{plainLimits};
 ghost use Rattle.input_volume_controller.specs.Calls.{frame, recommendation};
 ghost use Rattle.frame_answers.specs.Answered.{RecommendedAs, FrameAnsweredAs, AnsweredAs, VolumePending};
 use frame_lines::answer::Reply;
@@ -55,7 +56,7 @@ pub(crate) fn answer_frame(
     samples: &[f32],
 ) -> Answered
     requires { ⌜ Good controller ⌝ }
-    ensures { λ r. ⌜ FrameAnsweredAs controller (frame (equalVolumes (pos volume) (controller .control .channels .count)) (length (now (samples .entry))) (now (samples .entry))) (recommendation probability level) r ⌝ }
+    ensures { λ r. ⌜ FrameAnsweredAs controller (frame plainLimits (equalVolumes (pos volume) (controller .control .channels .count)) (length (now (samples .entry))) (now (samples .entry))) (recommendation probability level) r ⌝ }
 {
     let heard = controller.analyze_input_audio(volume as i32, samples.len(), samples);
     let answer = heard.answer;

@@ -25,16 +25,18 @@ use Rattle.input_volume_controller.specs.declared.volume_control.VolumeC
 use Rattle.input_volume_controller.specs.declared.InputVolumeController.{InputVolumeController}
 use Rattle.input_volume_controller.specs.declared.Analysis.the-variants.{Accepted, Refused}
 use Rattle.input_volume_controller.specs.declared.Analyzed.{Analyzed}
+use Rattle.input_volume_controller.specs.declared.limits.Limits.{Limits}
 use Rattle.input_volume_controller.specs.declared.volume_set.VolumeSet.{VolumeSet}
-use Rattle.input_volume_controller.specs.Volumes.{Volumes, numbersOf}
-use Rattle.input_volume_controller.specs.VolumeSet.{volumesIn, SetOf}
+use Rattle.input_volume_controller.specs.Volumes.{Volumes, numbersOf, areNumbers, numbersIn}
+use Rattle.input_volume_controller.specs.VolumeSet.{levelsOf, volumesIf, volumesIn, SetOf}
+use Rattle.input_volume_controller.specs.Limits.{isWithin}
 use Rattle.input_volume_controller.specs.Control.{Control, controlOf}
 use Rattle.input_volume_controller.specs.Control as ControlOf
 use Rattle.input_volume_controller.specs.ControlCalls.{lowerChannels, oneFrameMore}
 use Rattle.input_volume_controller.specs.Controller.{Controller, together, viewOf, Good, Becomes}
 use Rattle.input_volume_controller.specs.Reply.{Reply, mark, Stepped}
 use Rattle.input_volume_controller.specs.Differ.{differ}
-use Rattle.input_volume_controller.specs.Frame.{askedOf, handled, unlessWaiting, unlessRefused, analyzeInputAudio}
+use Rattle.input_volume_controller.specs.Frame.{testedAs, askedOf, handled, unlessWaiting, unlessRefused, analyzeInputAudio}
 use Rattle.input_volume_controller.specs.Calls.{Call, frame, step, Typed, Does, ControlDoes, Framed, analyzeSet, AnalyzedSetOf, AnalyzedEachOf}
 use Rattle.input_volume_controller.proofs.ChannelLists.{count-is}
 
@@ -155,13 +157,22 @@ framed-same {r = r} e f = subst (λ (x : Stepped). Framed x r) e f
 
 -- ---- a frame with its volumes
 
--- another length is refused, whatever the volumes are; and as many are what was given
-counted-by : (counted : Bool) (one other : Volumes) (fits : Bool) (samples : ℕ) (lent : List Float) (c : Controller) → (counted ≡ true → one ≡ other)
-    → unlessRefused counted one fits samples lent c ≡ unlessRefused counted other fits samples lent c
-counted-by false one other fits samples lent c h = refl
-counted-by true one other fits samples lent c h = ap (λ (v : Volumes). unlessRefused true v fits samples lent c) (h refl)
+module _ (fits within : Bool) (samples : ℕ) (lent : List Float) (c : Controller) where
+  abbrev tested : Bool → Volumes → Stepped
+  tested counted volumes = unlessRefused (testedAs counted (areNumbers volumes) fits within) (numbersIn volumes) samples lent c
 
-module _ (self : InputVolumeController) (good : Good self) (volumes : List ℤ) (set : VolumeSet) (is : SetOf volumes set) (samples : ℕ) (lent : List Float) where
+  -- the volumes of a set that is not inside are not read
+  inside-by : (inside : Bool) (levels : List ℕ) → unlessRefused (testedAs true inside fits within) levels samples lent c ≡ tested true (volumesIf inside levels)
+  inside-by true levels = refl
+  inside-by false levels = refl
+
+  -- another length is refused, whatever the volumes are; and as many are what was given
+  counted-by : (counted inside : Bool) (levels : List ℕ) (volumes : Volumes) → (counted ≡ true → volumesIf inside levels ≡ volumes)
+      → unlessRefused (testedAs counted inside fits within) levels samples lent c ≡ tested counted volumes
+  counted-by false inside levels volumes h = refl
+  counted-by true inside levels volumes h = inside-by inside levels ∙ ap (tested true) (h refl)
+
+module _ (most : Limits) (self : InputVolumeController) (good : Good self) (volumes : List ℤ) (set : VolumeSet) (is : SetOf volumes set) (samples : ℕ) (lent : List Float) where
   abbrev channels : ℕ
   channels = length (viewOf self .control .channels)
 
@@ -172,17 +183,25 @@ module _ (self : InputVolumeController) (good : Good self) (volumes : List ℤ) 
       let c = good .control .channels in
       subst (λ (m : ℕ). volumesIn m set ≡ numbersOf volumes) k (is .numbers (omega (arith, c .low)) (omega (arith, c .high)))
 
-  set-step : analyzeSet set samples lent (viewOf self) ≡ step (viewOf self) (frame volumes samples lent)
-  unfolding analyzeInputAudio
+  set-step : analyzeSet most set samples lent (viewOf self) ≡ step (viewOf self) (frame most volumes samples lent)
+  unfolding analyzeInputAudio volumesIn
   set-step =
-      ap (λ (n : ℕ). unlessRefused (eqb n channels) (volumesIn channels set) (frameFits channels samples lent) samples lent (viewOf self)) (is .count)
-      ∙ counted-by (eqb (length volumes) channels) (volumesIn channels set) (numbersOf volumes) (frameFits channels samples lent) samples lent (viewOf self) (numbers-at channels (whole-count self))
+      let fits = frameFits channels samples lent in
+      let within = isWithin most channels samples in
+      let levels = levelsOf (set .levels) channels in
+      ap (λ (n : ℕ). unlessRefused (testedAs (eqb n channels) (set .inside) fits within) levels samples lent (viewOf self)) (is .count)
+      ∙ counted-by fits within samples lent (viewOf self) (eqb (length volumes) channels) (set .inside) levels (numbersOf volumes) (numbers-at channels (whole-count self))
 
-  pub of-set : {r : Analyzed} → AnalyzedSetOf self set samples lent r → AnalyzedEachOf self volumes samples lent r
+  pub of-set : {r : Analyzed} → AnalyzedSetOf most self set samples lent r → AnalyzedEachOf most self volumes samples lent r
   of-set t = record {
     does = record { good = t .good; typed = t .typed; reply = t .reply ∙ ap (λ (x : Stepped). x .reply) set-step; view = t .view ∙ ap (λ (x : Stepped). x .state) set-step };
     same = t .same;
   }
+
+-- an entry's limits are those that it made
+pub at-limits : {made most : Limits} {self : InputVolumeController} {volumes : List ℤ} {samples : ℕ} {lent : List Float} {r : Analyzed} → made ≡ most → AnalyzedEachOf made self volumes samples lent r
+    → AnalyzedEachOf most self volumes samples lent r
+at-limits {self = self} {volumes = volumes} {samples = samples} {lent = lent} {r = r} e a = subst (λ (limits : Limits). AnalyzedEachOf limits self volumes samples lent r) e a
 
 -- a frame within the wait, and after it
 module _ (clipped : Bool) (since wait : ℕ) (c : Controller) where

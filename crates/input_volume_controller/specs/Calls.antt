@@ -10,25 +10,28 @@ use lib.ListN.{length, getD}
 use Rattle.numbers.specs.declared.refusal.Refusal.{Refusal}
 use Rattle.clipping_predictor_level_buffer.specs.declared.level.Level.{Level}
 use Rattle.clipping_predictor.specs.Predictor.{Predictor, frameFits}
+use Rattle.numbers.specs.declared.refusal.Outcome.{Outcome}
 use Rattle.mono_input_volume_controller.specs.declared.speech_level.SpeechLevel.{SpeechLevel}
 use Rattle.input_volume_controller.specs.declared.Analysis.the-variants.{Refused}
+use Rattle.input_volume_controller.specs.declared.limits.Limits.{Limits}
 use Rattle.input_volume_controller.specs.declared.volume_set.VolumeSet.{VolumeSet}
 use Rattle.input_volume_controller.specs.declared.Analyzed.{Analyzed}
 use Rattle.input_volume_controller.specs.declared.volume_control.VolumeControl.{VolumeControl}
 use Rattle.input_volume_controller.specs.declared.InputVolumeController.{InputVolumeController}
 use Rattle.input_volume_controller.specs.Volumes.{equalVolumes}
-use Rattle.input_volume_controller.specs.VolumeSet.{volumesIn}
+use Rattle.input_volume_controller.specs.VolumeSet.{levelsOf}
+use Rattle.input_volume_controller.specs.Limits.{isWithin}
 use Rattle.input_volume_controller.specs.Control.{controlOf}
 use Rattle.input_volume_controller.specs.Control as ControlOf
 use Rattle.input_volume_controller.specs.ControlCalls.{initialize, switchCapture}
 use Rattle.input_volume_controller.specs.Controller.{Controller, viewOf, Good}
 use Rattle.input_volume_controller.specs.Reply.{Reply, done, analysisSays, Stepped}
-use Rattle.input_volume_controller.specs.Frame.{unlessRefused, analyzeInputAudio}
+use Rattle.input_volume_controller.specs.Frame.{testedAs, unlessRefused, analyzeInputAudio}
 use Rattle.input_volume_controller.specs.Recommendation.{recommendInputVolume}
 
 pub data Call : Type 0 where
-  -- the volumes of all channels, the samples per channel, and the lent samples: `analyze_input_audio`
-  frame : List ℤ → ℕ → List Float → Call
+  -- the limits of the entry, the volumes of all channels, the samples per channel, and the lent samples: `analyze_input_audio` and `analyze_input_audio_each`, plain and the spotter's
+  frame : Limits → List ℤ → ℕ → List Float → Call
   -- the speech probability and level: `recommend_input_volume`
   recommendation : Float → SpeechLevel → Call
   -- `initialize`
@@ -37,7 +40,7 @@ pub data Call : Type 0 where
   captureSwitch : Bool → Call
 
 abbrev pub step : Controller → Call → Stepped
-step c (frame volumes samples lent) = analyzeInputAudio volumes samples lent c
+step c (frame most volumes samples lent) = analyzeInputAudio most volumes samples lent c
 step c (recommendation probability level) = recommendInputVolume probability level c
 step c initialise = record { reply = done; state = record { control = initialize (c .control); predictor = c .predictor } }
 step c (captureSwitch on) = record { reply = done; state = record { control = switchCapture on (c .control); predictor = c .predictor } }
@@ -64,7 +67,7 @@ answers c (call ∷ calls) = answerOf (step c call) ∷ answers (step c call .st
 
 -- what the language's types say of a call's inputs, and a claim may need: lent samples are 32-bit floats
 abbrev pub Typed : Call → Type 0
-Typed (frame volumes samples lent) = (i : ℕ) → T (fits binary32 (getD lent i nan))
+Typed (frame most volumes samples lent) = (i : ℕ) → T (fits binary32 (getD lent i nan))
 Typed (recommendation probability level) = Unit {0}
 Typed initialise = Unit {0}
 Typed (captureSwitch on) = Unit {0}
@@ -91,23 +94,26 @@ pub record Framed (s : Stepped) (r : Analyzed) : Type 0 where
   pub accepted : (cause : Refusal) → r .answer ≡ Refused cause → ⊥
 
 -- a frame whose volumes are taken apart
-abbrev pub analyzeSet : VolumeSet → ℕ → List Float → Controller → Stepped
-analyzeSet set samples lent c =
-    let channels = length (c .control .channels) in
-    unlessRefused (eqb (set .count) channels) (volumesIn channels set) (frameFits channels samples lent) samples lent c
+abbrev pub setOutcome : Limits → ℕ → VolumeSet → ℕ → List Float → Outcome
+setOutcome most channels set samples lent = testedAs (eqb (set .count) channels) (set .inside) (frameFits channels samples lent) (isWithin most channels samples)
 
-pub record AnalyzedSetOf (self : InputVolumeController) (set : VolumeSet) (samples : ℕ) (lent : List Float) (r : Analyzed) : Type 0 where
+abbrev pub analyzeSet : Limits → VolumeSet → ℕ → List Float → Controller → Stepped
+analyzeSet most set samples lent c =
+    let channels = length (c .control .channels) in
+    unlessRefused (setOutcome most channels set samples lent) (levelsOf (set .levels) channels) samples lent c
+
+pub record AnalyzedSetOf (most : Limits) (self : InputVolumeController) (set : VolumeSet) (samples : ℕ) (lent : List Float) (r : Analyzed) : Type 0 where
   pub good : Good (r .controller)
   pub typed : (i : ℕ) → T (fits binary32 (getD lent i nan))
-  pub reply : analysisSays (r .answer) ≡ analyzeSet set samples lent (viewOf self) .reply
-  pub view : viewOf (r .controller) ≡ analyzeSet set samples lent (viewOf self) .state
+  pub reply : analysisSays (r .answer) ≡ analyzeSet most set samples lent (viewOf self) .reply
+  pub view : viewOf (r .controller) ≡ analyzeSet most set samples lent (viewOf self) .state
   pub same : (cause : Refusal) → r .answer ≡ Refused cause → r .controller ≡ self
 
--- a frame; a refused one hands the very controller back
-pub record AnalyzedEachOf (self : InputVolumeController) (volumes : List ℤ) (samples : ℕ) (lent : List Float) (r : Analyzed) : Type 0 where
-  pub does : Does self (frame volumes samples lent) (analysisSays (r .answer)) (r .controller)
+-- a frame through an entry with these limits; a refused one hands the very controller back
+pub record AnalyzedEachOf (most : Limits) (self : InputVolumeController) (volumes : List ℤ) (samples : ℕ) (lent : List Float) (r : Analyzed) : Type 0 where
+  pub does : Does self (frame most volumes samples lent) (analysisSays (r .answer)) (r .controller)
   pub same : (cause : Refusal) → r .answer ≡ Refused cause → r .controller ≡ self
 
 -- with one volume for all channels. That it is what document 01 says of such a frame is the claim `OneVolume` (claims, specs/OneVolume.antt).
-abbrev pub AnalyzedOf : InputVolumeController → ℤ → ℕ → List Float → Analyzed → Type 0
-AnalyzedOf self volume samples lent r = AnalyzedEachOf self (equalVolumes volume (self .control .channels .count)) samples lent r
+abbrev pub AnalyzedOf : Limits → InputVolumeController → ℤ → ℕ → List Float → Analyzed → Type 0
+AnalyzedOf most self volume samples lent r = AnalyzedEachOf most self (equalVolumes volume (self .control .channels .count)) samples lent r

@@ -1,4 +1,5 @@
--- Document 01, "All channels", and document 02 (xiv): a frame with a volume for each channel, by the source's `analyze_input_audio`; causes 20, 8 and 9. Definitions only.
+-- Document 01, "All channels", and document 02 (xiv) and (viii): a frame with a volume for each channel, through an entry with limits, by the source's `analyze_input_audio`; causes 20, 8, 9 and 18.
+-- Definitions only.
 use mathlib.Core.Bool.{Bool, true, false, _||_}
 use mathlib.Core.List.{List}
 use Prim.Native.Nat.{ℕ, max}
@@ -7,7 +8,9 @@ use lib.IntN.{ℤ}
 use lib.Ieee.{Float, lt}
 use lib.ListN.{length}
 use Rattle.numbers.specs.declared.refusal.Refusal.{Refusal}
-use Rattle.numbers.specs.declared.refusal.Refusal.the-variants.{InputVolume, FrameSize, VolumeCount}
+use Rattle.numbers.specs.declared.refusal.Refusal.the-variants.{InputVolume, FrameSize, FrameLimits, VolumeCount}
+use Rattle.numbers.specs.declared.refusal.Outcome.{Outcome}
+use Rattle.numbers.specs.declared.refusal.Outcome.the-variants.{Accepted, Refused}
 use Rattle.numbers.specs.Refusal.{numberOf}
 use Rattle.clipping_predictor.specs.declared.modes.Asked.{Asked}
 use Rattle.clipping_predictor.specs.declared.modes.Estimated.{Estimated}
@@ -17,7 +20,9 @@ use Rattle.clipping_predictor.specs.Predictor.{Predictor, frameFits, enteredIf,
 use Rattle.clipping_predictor.specs.AllRings.{predictedBy}
 use Rattle.input_volume_controller.specs.ClippedRatio.{clippedRatio}
 use Rattle.mono_input_volume_controller.specs.MonoState.{maxInputVolume}
-use Rattle.input_volume_controller.specs.Volumes.{Volumes, outsideSet, numberSet, numbersOf}
+use Rattle.input_volume_controller.specs.declared.limits.Limits.{Limits}
+use Rattle.input_volume_controller.specs.Volumes.{numbersOf, areNumbers, numbersIn}
+use Rattle.input_volume_controller.specs.Limits.{isWithin}
 use Rattle.input_volume_controller.specs.Control.{Control}
 use Rattle.input_volume_controller.specs.ControlCalls.{withAppliedInputVolumes, lowerChannels, oneFrameMore}
 use Rattle.input_volume_controller.specs.Controller.{Controller}
@@ -54,6 +59,19 @@ handled clipped e c = record { reply = mark (differ clipped (c .control) (e .low
 abbrev pub withVolumesApplied : List ℕ → Controller → Controller
 withVolumesApplied volumes c = record { control = withAppliedInputVolumes volumes (c .control); predictor = c .predictor }
 
+-- The tests of a frame. Document 02 (xiv): "It refuses with 20 a set whose length isn't the channel count, then with 8 a set with any volume outside 0 to 255, then as before", with 9; and (viii): "It
+-- refuses with 18 a frame .. with more channels or samples per channel than its own limits, after all refusals of the larger entry".
+abbrev pub testedAs : Bool → Bool → Bool → Bool → Outcome
+testedAs false inside fits within = Refused VolumeCount
+testedAs true false fits within = Refused InputVolume
+testedAs true true false within = Refused FrameSize
+testedAs true true true false = Refused FrameLimits
+testedAs true true true true = Accepted
+
+-- a frame of so many channels
+abbrev pub frameOutcome : Limits → ℕ → List ℤ → ℕ → List Float → Outcome
+frameOutcome most channels volumes samples lent = testedAs (eqb (length volumes) channels) (areNumbers (numbersOf volumes)) (frameFits channels samples lent) (isWithin most channels samples)
+
 -- a refusal hands the state back
 abbrev pub refusedWith : Refusal → Controller → Stepped
 refusedWith cause c = record { reply = refusal (numberOf cause); state = c }
@@ -73,16 +91,13 @@ module _ (predicted : Asked → Predictor → Estimated) where
       (record { control = c .control; predictor = enteredIf true samples lent (c .predictor) })
   ifUsedBy false samples lent c = record { reply = mark false; state = c }
 
-  -- "It refuses with 20 a set whose length isn't the channel count, then with 8 a set with any volume outside 0 to 255, then as before", with 9; each hands the state back
-  abbrev pub unlessRefusedBy : Bool → Volumes → Bool → ℕ → List Float → Controller → Stepped
-  unlessRefusedBy false volumes fits samples lent c = refusedWith VolumeCount c
-  unlessRefusedBy true outsideSet fits samples lent c = refusedWith InputVolume c
-  unlessRefusedBy true (numberSet volumes) false samples lent c = refusedWith FrameSize c
-  unlessRefusedBy true (numberSet volumes) true samples lent c = ifUsedBy (c .control .used) samples lent (withVolumesApplied volumes c)
+  -- what the tests say is done
+  abbrev pub unlessRefusedBy : Outcome → List ℕ → ℕ → List Float → Controller → Stepped
+  unlessRefusedBy (Refused cause) volumes samples lent c = refusedWith cause c
+  unlessRefusedBy Accepted volumes samples lent c = ifUsedBy (c .control .used) samples lent (withVolumesApplied volumes c)
 
-  abbrev pub frameBy : List ℤ → ℕ → List Float → Controller → Stepped
-  frameBy volumes samples lent c =
-      unlessRefusedBy (eqb (length volumes) (length (c .control .channels))) (numbersOf volumes) (frameFits (length (c .control .channels)) samples lent) samples lent c
+  abbrev pub frameBy : Limits → List ℤ → ℕ → List Float → Controller → Stepped
+  frameBy most volumes samples lent c = unlessRefusedBy (frameOutcome most (length (c .control .channels)) volumes samples lent) (numbersIn (numbersOf volumes)) samples lent c
 
 -- with the estimates of the rings
 abbrev pub unlessWaiting : Bool → Bool → Controller → Stepped
@@ -91,9 +106,9 @@ unlessWaiting = unlessWaitingBy predictedBy
 abbrev pub ifUsed : Bool → ℕ → List Float → Controller → Stepped
 ifUsed = ifUsedBy predictedBy
 
-abbrev pub unlessRefused : Bool → Volumes → Bool → ℕ → List Float → Controller → Stepped
+abbrev pub unlessRefused : Outcome → List ℕ → ℕ → List Float → Controller → Stepped
 unlessRefused = unlessRefusedBy predictedBy
 
-unfoldable pub analyzeInputAudio : List ℤ → ℕ → List Float → Controller → Stepped
+unfoldable pub analyzeInputAudio : Limits → List ℤ → ℕ → List Float → Controller → Stepped
 unfolding predictedBy numbersOf
 analyzeInputAudio = frameBy predictedBy

@@ -1,6 +1,7 @@
 pub mod ClippedRatio
 pub mod Volumes
 pub mod VolumeSet
+pub mod Limits
 pub mod Channels
 pub mod Control
 pub mod ControlCalls

@@ -33,6 +33,11 @@ abbrev pub areNumbers : Volumes → Bool
 areNumbers outsideSet = false
 areNumbers (numberSet volumes) = true
 
+-- a set that is outside is refused, and none of its volumes is used
+abbrev pub numbersIn : Volumes → List ℕ
+numbersIn outsideSet = []
+numbersIn (numberSet volumes) = volumes
+
 -- ---- "The lowest"
 
 unfoldable pub lowestFrom : ℕ → List ℕ → ℕ

@@ -8,9 +8,14 @@ ghost use Rattle.clipping_predictor_level_buffer.specs.Ring.{storedSays, stored
 ghost use Rattle.clipping_predictor_level_buffer.specs.Metrics.{metricsSays};
 ghost use Rattle.input_volume_controller.specs.Controller.{viewOf, Good, CreatedWith, CreatedOf};
 ghost use Rattle.input_volume_controller.specs.Reply.{done, recommendationSays};
+ghost use Rattle.input_volume_controller.specs.Limits.{plainLimits, spotterLimits};
 ghost use Rattle.input_volume_controller.specs.Calls.{recommendation, initialise, captureSwitch, Does, AnalyzedOf, AnalyzedEachOf, AnalyzedSetOf};
 ghost use Rattle.input_volume_controller.specs.ChannelMetrics.{channelMetrics};
+pub use crate::limits::Limits;
+pub use crate::limits::plain_limits;
+pub use crate::limits::spotter_limits;
 pub use crate::making::default_predictor_config;
+use crate::outcome::frame_outcome;
 pub use crate::volume_control::VolumeControl;
 use crate::volume_control::fresh_control;
 pub use crate::volume_set::VolumeSet;
@@ -18,7 +23,6 @@ pub use crate::volume_set::equal_volumes;
 pub use crate::volume_set::lent_volumes;
 use clipping_predictor::ClippingPredictor;
 use clipping_predictor::create_clipping_predictor;
-use clipping_predictor::frame_fits;
 use clipping_predictor::settings::ClippingPredictorConfig;
 use clipping_predictor_level_buffer::Metrics;
 use clipping_predictor_level_buffer::Stored;
@@ -30,7 +34,9 @@ use numbers::refusal::Refusal;
 mod channels;
 mod clipped_ratio;
 mod frame;
+mod limits;
 mod making;
+mod outcome;
 pub mod plain;
 mod volume_control;
 mod volume_set;
@@ -142,14 +148,10 @@ impl InputVolumeController {
         frame: &[f32],
     ) -> Analyzed
         requires { ⌜ Good self ⌝ }
-        ensures { λ r. ⌜ AnalyzedOf self «applied_input_volume» «samples_per_channel» (now (frame .entry)) r ⌝ }
+        ensures { λ r. ⌜ AnalyzedOf plainLimits self «applied_input_volume» «samples_per_channel» (now (frame .entry)) r ⌝ }
     {
-        let channels = self.control.channels.count;
-        self.analyze_volumes(
-            equal_volumes(applied_input_volume, channels),
-            samples_per_channel,
-            frame,
-        )
+        let wide = plain_limits();
+        self.analyze_within(wide, applied_input_volume, samples_per_channel, frame)
     }
 
     // The same with a volume for each channel, in their order. Tests causes 20, 8 and 9, in that order.
@@ -160,48 +162,88 @@ impl InputVolumeController {
         frame: &[f32],
     ) -> Analyzed
         requires { ⌜ Good self ⌝ }
-        ensures { λ r. ⌜ AnalyzedEachOf self (now (volumes .entry)) «samples_per_channel» (now (frame .entry)) r ⌝ }
+        ensures { λ r. ⌜ AnalyzedEachOf plainLimits self (now (volumes .entry)) «samples_per_channel» (now (frame .entry)) r ⌝ }
     {
-        self.analyze_volumes(lent_volumes(volumes), samples_per_channel, frame)
+        let wide = plain_limits();
+        let set = lent_volumes(volumes);
+        self.analyze_volumes(wide, set, samples_per_channel, frame)
     }
 
-    // The same with volumes that are taken apart. Both forms come here.
+    // The word spotter's entry, with one volume for all channels. Tests causes 8, 9 and 18, in that order.
+    pub fn spotter_analyze_input_audio(
+        self,
+        applied_input_volume: i32,
+        samples_per_channel: usize,
+        frame: &[f32],
+    ) -> Analyzed
+        requires { ⌜ Good self ⌝ }
+        ensures { λ r. ⌜ AnalyzedOf spotterLimits self «applied_input_volume» «samples_per_channel» (now (frame .entry)) r ⌝ }
+    {
+        let narrow = spotter_limits();
+        self.analyze_within(narrow, applied_input_volume, samples_per_channel, frame)
+    }
+
+    // The same with a volume for each channel. Tests causes 20, 8, 9 and 18, in that order.
+    pub fn spotter_analyze_input_audio_each(
+        self,
+        volumes: &[i32],
+        samples_per_channel: usize,
+        frame: &[f32],
+    ) -> Analyzed
+        requires { ⌜ Good self ⌝ }
+        ensures { λ r. ⌜ AnalyzedEachOf spotterLimits self (now (volumes .entry)) «samples_per_channel» (now (frame .entry)) r ⌝ }
+    {
+        let narrow = spotter_limits();
+        let set = lent_volumes(volumes);
+        self.analyze_volumes(narrow, set, samples_per_channel, frame)
+    }
+
+    // With one volume for all channels, through an entry with these limits.
+    fn analyze_within(
+        self,
+        most: Limits,
+        applied_input_volume: i32,
+        samples_per_channel: usize,
+        frame: &[f32],
+    ) -> Analyzed
+        requires { ⌜ Good self ⌝ }
+        ensures { λ r. ⌜ AnalyzedOf most self «applied_input_volume» «samples_per_channel» (now (frame .entry)) r ⌝ }
+    {
+        let channels = self.control.channels.count;
+        self.analyze_volumes(
+            most,
+            equal_volumes(applied_input_volume, channels),
+            samples_per_channel,
+            frame,
+        )
+    }
+
+    // With volumes that are taken apart. Every frame comes here.
     pub fn analyze_volumes(
         self,
+        most: Limits,
         set: VolumeSet,
         samples_per_channel: usize,
         frame: &[f32],
     ) -> Analyzed
         requires { ⌜ Good self ⌝ }
-        ensures { λ r. ⌜ AnalyzedSetOf self set «samples_per_channel» (now (frame .entry)) r ⌝ }
+        ensures { λ r. ⌜ AnalyzedSetOf most self set «samples_per_channel» (now (frame .entry)) r ⌝ }
     {
-        if set.count != self.control.channels.count {
-            return Analyzed {
+        let channels = self.control.channels.count;
+        let outcome = frame_outcome(most, channels, set, samples_per_channel, frame);
+        match outcome {
+            Outcome::Refused(cause) => Analyzed {
                 controller: self,
-                answer: Analysis::Refused(Refusal::VolumeCount),
-            };
+                answer: Analysis::Refused(cause),
+            },
+            Outcome::Accepted => {
+                let control = self.control;
+                let predictor = self.predictor;
+                let levels = set.levels;
+                let applied = control.set_applied_input_volumes(levels);
+                frame::accepted(applied, predictor, samples_per_channel, frame)
+            }
         }
-        if !set.inside {
-            return Analyzed {
-                controller: self,
-                answer: Analysis::Refused(Refusal::InputVolume),
-            };
-        }
-        if !frame_fits(
-            self.control.channels.count as u8,
-            samples_per_channel,
-            frame,
-        ) {
-            return Analyzed {
-                controller: self,
-                answer: Analysis::Refused(Refusal::FrameSize),
-            };
-        }
-        let control = self.control;
-        let predictor = self.predictor;
-        let levels = set.levels;
-        let applied = control.set_applied_input_volumes(levels);
-        frame::accepted(applied, predictor, samples_per_channel, frame)
     }
 
     pub fn recommend_input_volume(

@@ -17,6 +17,7 @@ pub enum Refusal {
     FrameLine,
     PredictorCapacity,
     PredictorLevels,
+    FrameLimits,
     VolumeCount,
 }
 
@@ -44,6 +45,7 @@ pub fn number(cause: Refusal) -> u32
         Refusal::FrameLine => 12,
         Refusal::PredictorCapacity => 14,
         Refusal::PredictorLevels => 15,
+        Refusal::FrameLimits => 18,
         Refusal::VolumeCount => 20,
     }
 }

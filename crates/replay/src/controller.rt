@@ -96,8 +96,31 @@ fn told(done: Analyzed, full: bool) -> InputVolumeController
     next
 }
 
+// Through the word spotter's entry, or through the one for everybody.
+fn analyzed(
+    c: InputVolumeController,
+    short: bool,
+    volume: i32,
+    samples: usize,
+    frame: &[f32],
+) -> Analyzed
+    requires { ⌜ Good c ⌝ }
+    ensures { λ r. ⌜ Good (r .controller) ⌝ }
+{
+    if short {
+        return c.spotter_analyze_input_audio(volume, samples, frame);
+    }
+    c.analyze_input_audio(volume, samples, frame)
+}
+
 // A frame, whose floats are in a field behind its volume.
-fn framed(c: InputVolumeController, s: &[u8], field: usize, full: bool) -> InputVolumeController
+fn framed(
+    c: InputVolumeController,
+    short: bool,
+    s: &[u8],
+    field: usize,
+    full: bool,
+) -> InputVolumeController
     requires { ⌜ Good c ⌝ }
     ensures { λ r. ⌜ Good r ⌝ }
 {
@@ -105,7 +128,7 @@ fn framed(c: InputVolumeController, s: &[u8], field: usize, full: bool) -> Input
     let n = text::floats(s, field, &mut space);
     let each = samples(s, field, n, c.control.channels.count);
     told(
-        c.analyze_input_audio(text::number(s, 0), each, &space[..n]),
+        analyzed(c, short, text::number(s, 0), each, &space[..n]),
         full,
     )
 }
@@ -196,8 +219,9 @@ pub fn answer(letter: u8, c: InputVolumeController, s: &[u8], full: bool) -> Inp
             full,
         ),
         b'K' => made(c, with_predictor(s), full),
-        b'A' => framed(c, s, 1, full),
-        b'B' => framed(c, s, 2, full),
+        b'A' => framed(c, false, s, 1, full),
+        b'B' => framed(c, false, s, 2, full),
+        b'W' => framed(c, true, s, 2, full),
         b'V' => framed_each(c, s, full),
         b'R' => recommended(c, text::float(s, 0), speech_level(s), full),
         b'I' => accepted(c.initialize(), full),

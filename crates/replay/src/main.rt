@@ -13,6 +13,7 @@
 //     N channels and the eleven settings   a controller: made
 //     K the same, then mode window reference delay threshold margin   a controller with a predictor of any mode: made
 //     A volume floats   B volume samples floats   a frame; a frame that says how many samples a channel has
+//     W volume samples floats           the same as B, through the word spotter's entry
 //     R probability level   I   C switch   D   a recommendation; initialise; the capture switch; all records
 //     V samples n volumes floats        a frame with a set of n volumes; with n = 0 the floats follow the 0 and a blank
 //     V                                 from here on, all of the controller's state after each of its calls

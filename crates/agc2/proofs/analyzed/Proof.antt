@@ -15,7 +15,7 @@ set-for-requires : tie.Need-set-for-requires
 set-for-requires c κs = search needs
 
 analyze-volumes-requires : tie.Need-analyze-volumes-requires
-analyze-volumes-requires c κs = let w = c .before in in-order (w .whole .ensures) (w .before .before .pre)
+analyze-volumes-requires c κs = let w = c .before .before in in-order (w .whole .ensures) (w .before .before .pre)
 
 frame-numbers-requires : tie.Need-frame-numbers-requires
 frame-numbers-requires c κs = search needs
@@ -28,12 +28,12 @@ returns c volumes gives =
     let n = c .before in
     let a = n .before .before in
     let t = a .before in
-    let w = t .before in
+    let w = t .before .before in
     let s = w .before .before in
     let whole = w .whole .result in
     let counted = subst (λ (x : InputVolumeController). Gives (x .control .channels .count) volumes (s .args .given)) (sym (w .whole .ensures)) gives in
     framed (a .analyze-volumes .result) (w .whole .ensures) (n .frame-numbers .ensures) (c .beside .ensures)
-    (of-set whole (in-order (w .whole .ensures) (s .pre)) volumes (t .set-for .result) (t .set-for .ensures volumes counted) (s .args .samples-per-channel) (s .args .samples .now) (a .analyze-volumes .ensures))
+    (of-set (s .args .given .most) whole (in-order (w .whole .ensures) (s .pre)) volumes (t .set-for .result) (t .set-for .ensures volumes counted) (s .args .samples-per-channel) (s .args .samples .now) (a .analyze-volumes .ensures))
 
 pub analyzed-spec : {M : Type 1} → statement M
 analyzed-spec = tie.close (tie.spec whole-requires set-for-requires analyze-volumes-requires frame-numbers-requires beside-requires returns)

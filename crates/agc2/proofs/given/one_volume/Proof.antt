@@ -1,19 +1,19 @@
--- `given::one_volume` meets its contract. Assumes nothing.
-use mathlib.Core.Path.{_≡_, sym, ap}
-use Prim.Native.Nat.{ℕ}
-use native.Mathlib.Omega.{arith}
-use lib.IntN.{ℤ}
-use mir.Syntax.{w32}
-use mir.ValLaws.{toZ-ofZ}
-use Rattle.input_volume_controller.specs.Volumes.{equalVolumes}
+-- `given::one_volume` meets its contract: `one_within` at its limits. Assumes nothing.
+use borrow.Author.Needs.{needs}
+use Rattle.agc2.proofs.Handed.{gives-all}
 use Rattle.agc2.proofs.given.one_volume.Statement.{statement}
 use Rattle.agc2.proofs.given.one_volume.Tie as tie
 
+plain-limits-requires : tie.Need-plain-limits-requires
+plain-limits-requires c κs = search needs
+
+one-within-requires : tie.Need-one-within-requires
+one-within-requires c κs = search needs
+
 returns : tie.Need-returns
-returns c channels = record {
-  one = λ t. ap (λ (v : ℤ). equalVolumes v channels) (sym (toZ-ofZ w32 (c .args .volume) (c .fits .volume)));
-  each = λ f. absurd (let z : _≡_ {A = ℕ} 0 1 = cc in omega arith);
-}
+returns c =
+    let l = c .before in
+    gives-all (l .before .args .volume) (l .before .fits .volume) (l .plain-limits .ensures) (c .one-within .ensures)
 
 pub one-volume-spec : {M : Type 1} → statement M
-one-volume-spec = tie.close (tie.spec returns)
+one-volume-spec = tie.close (tie.spec plain-limits-requires one-within-requires returns)

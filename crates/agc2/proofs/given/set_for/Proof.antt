@@ -18,7 +18,7 @@ returns c volumes gives =
     let s = i .before in
     let set = c .equal-volumes .result in
     subst (λ (v : List ℤ). SetOf v set) (sym (gives .one (i .if1 .taken)))
-    (subst (λ (v : ℤ). SetOf (equalVolumes v (s .args .channels)) set) (again (s .args .given .volume) (c .before .struct-told .given .1 .0 .1)) (c .equal-volumes .ensures))
+    (subst (λ (v : ℤ). SetOf (equalVolumes v (s .args .channels)) set) (again (s .args .given .volume) (c .before .struct-told .given .1 .1 .0 .1)) (c .equal-volumes .ensures))
 
 returns-2 : tie.Need-returns-2
 returns-2 c volumes gives = gives .each (c .before .if1 .left)

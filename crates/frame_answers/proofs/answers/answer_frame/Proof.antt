@@ -6,6 +6,7 @@ use lib.ListN.{length}
 use mir.Syntax.{w32}
 use mir.ValLaws.{toZ-pos}
 use denote.Ref.{now}
+use Rattle.input_volume_controller.specs.Limits.{plainLimits}
 use Rattle.input_volume_controller.specs.Calls.{AnalyzedOf}
 use Rattle.frame_answers.proofs.Lines.{refused-as, pending-after, accepted-as}
 use borrow.Author.Needs.{needs}
@@ -14,10 +15,10 @@ use Rattle.frame_answers.proofs.answers.answer_frame.Tie as tie
 
 -- what the frame's call says, with the volume as it came
 heard : (c : tie.After-analyze-input-audio) → let s = c .before .before .args in
-    AnalyzedOf (s .controller) (pos (s .volume)) (length (now (s .samples))) (now (s .samples)) (c .analyze-input-audio .result)
+    AnalyzedOf plainLimits (s .controller) (pos (s .volume)) (length (now (s .samples))) (now (s .samples)) (c .analyze-input-audio .result)
 heard c =
     let s = c .before .before .args in
-    subst (λ (z : ℤ). AnalyzedOf (s .controller) z (length (now (s .samples))) (now (s .samples)) (c .analyze-input-audio .result)) (toZ-pos w32 _ (omega arith)) (c .analyze-input-audio .ensures)
+    subst (λ (z : ℤ). AnalyzedOf plainLimits (s .controller) z (length (now (s .samples))) (now (s .samples)) (c .analyze-input-audio .result)) (toZ-pos w32 _ (omega arith)) (c .analyze-input-audio .ensures)
 
 cast-analyze-input-audio : tie.Need-cast-analyze-input-audio
 cast-analyze-input-audio c = search needs

@@ -1,106 +1,99 @@
--- `InputVolumeController::analyze_volumes` meets its contract: the count of the volumes is tested first, then the volumes, and then the frame. Assumes nothing.
+-- `InputVolumeController::analyze_volumes` meets its contract: what the tests say, and then the frame with its volumes applied. Assumes nothing.
 use mathlib.Core.Path.{_≡_, refl, sym, ap, _∙_}
 use mathlib.Core.Bool.{Bool, true, false}
 use Prim.Native.Nat.{ℕ}
 use native.Mathlib.Omega.{arith}
 use denote.Ref.{now}
-use lib.Dec.{T, eqb}
-use lib.Ieee.{nan, binary32, fits}
-use lib.ListN.{getD}
-use borrow.Author.Tests.{not-true, not-false, eq-eqb, ne-eqb}
-use Rattle.numbers.specs.declared.refusal.Refusal.{Refusal}
-use Rattle.numbers.specs.declared.refusal.Refusal.the-variants.{InputVolume, FrameSize, VolumeCount}
+use lib.Dec.{eqb}
+use Rattle.numbers.specs.declared.refusal.Outcome.{Outcome}
+use Rattle.numbers.specs.declared.refusal.Outcome.the-variants.{Accepted, Refused}
 use Rattle.clipping_predictor.specs.Predictor.{frameFits}
-use Rattle.input_volume_controller.specs.declared.Analysis.the-variants.{Refused}
 use Rattle.input_volume_controller.specs.Control.{controlOf}
 use Rattle.input_volume_controller.specs.ControlCalls.{aggregated, withAppliedInputVolumes}
-use Rattle.input_volume_controller.specs.VolumeSet.{levelsOf, volumesIf, volumesIn}
+use Rattle.input_volume_controller.specs.VolumeSet.{levelsOf}
+use Rattle.input_volume_controller.specs.Limits.{isWithin}
 use Rattle.input_volume_controller.specs.Controller.{together, viewOf, Becomes}
 use Rattle.input_volume_controller.specs.Reply.{Stepped}
-use Rattle.input_volume_controller.specs.Frame.{refusedWith, ifUsed, withVolumesApplied, unlessRefused}
-use Rattle.input_volume_controller.specs.Calls.{analyzeSet, AnalyzedSetOf}
+use Rattle.input_volume_controller.specs.Frame.{testedAs, ifUsed, withVolumesApplied, unlessRefused}
+use Rattle.input_volume_controller.specs.Calls.{setOutcome, analyzeSet}
 use Rattle.input_volume_controller.proofs.Volumes.{applied-count}
 use Rattle.input_volume_controller.proofs.Whole.{whole-count, with-control, framed-same}
 use borrow.Author.Needs.{needs}
 use Rattle.input_volume_controller.proofs.InputVolumeController.analyze_volumes.Statement.{statement}
 use Rattle.input_volume_controller.proofs.InputVolumeController.analyze_volumes.Tie as tie
 
--- the frame's step, from what the three tests say
-module _ (s : tie.Start) where
-  abbrev by : ℕ → Bool → Bool → Bool → Stepped
-  by channels counted inside fits = unlessRefused counted (volumesIf inside (levelsOf (s .args .set .levels) channels)) fits (s .args .samples-per-channel) (now (s .args .frame)) (viewOf (s .args .self))
+frame-outcome-requires : tie.Need-frame-outcome-requires
+frame-outcome-requires c κs = c .before .pre .control .channels .high
+
+enum-known-outcome : tie.Need-enum-known-outcome
+enum-known-outcome c = search needs
+
+enum-told : tie.Need-enum-told
+enum-told c = search needs
+
+-- the frame's step, from what the tests say
+module _ (c : tie.After-frame-outcome) where
+  abbrev start : tie.Start
+  start = c .before .before
 
   abbrev count : ℕ
-  count = s .args .self .control .channels .count
+  count = start .args .self .control .channels .count
 
-  of-parts : (counted inside fits : Bool) → eqb (s .args .set .count) count ≡ counted → s .args .set .inside ≡ inside → frameFits count (s .args .samples-per-channel) (now (s .args .frame)) ≡ fits
-      → analyzeSet (s .args .set) (s .args .samples-per-channel) (now (s .args .frame)) (viewOf (s .args .self)) ≡ by count counted inside fits
-  unfolding volumesIn
-  of-parts counted inside fits o p q =
-      let n = whole-count (s .args .self) in
-      λ i. by (n i) ((ap (eqb (s .args .set .count)) n ∙ o) i) (p i) ((ap (λ (m : ℕ). frameFits m (s .args .samples-per-channel) (now (s .args .frame))) n ∙ q) i)
+  abbrev step-of : Stepped
+  step-of = analyzeSet (start .args .most) (start .args .set) (start .args .samples-per-channel) (now (start .args .frame)) (viewOf (start .args .self))
 
--- a refused frame
-module _ (s : tie.Start) (typed : (i : ℕ) → T (fits binary32 (getD (now (s .args .frame)) i nan))) (cause : Refusal) where
-  refused : analyzeSet (s .args .set) (s .args .samples-per-channel) (now (s .args .frame)) (viewOf (s .args .self)) ≡ refusedWith cause (viewOf (s .args .self))
-      → AnalyzedSetOf (s .args .self) (s .args .set) (s .args .samples-per-channel) (now (s .args .frame)) (record { controller = s .args .self; answer = Refused cause })
-  refused e = record { good = s .pre; typed = typed; reply = sym (ap (λ (x : Stepped). x .reply) e); view = sym (ap (λ (x : Stepped). x .state) e); same = λ other q. refl }
+  by-outcome : (o : Outcome) → c .frame-outcome .result ≡ o → step-of ≡ unlessRefused o (levelsOf (start .args .set .levels) count) (start .args .samples-per-channel) (now (start .args .frame)) (viewOf (start .args .self))
+  by-outcome o e =
+      let a = start .args in
+      let n = whole-count (a .self) in
+      let outcome : setOutcome (a .most) count (a .set) (a .samples-per-channel) (now (a .frame)) ≡ o = sym (c .frame-outcome .ensures) ∙ e in
+      λ i. unlessRefused ((ap (λ (m : ℕ). setOutcome (a .most) m (a .set) (a .samples-per-channel) (now (a .frame))) n ∙ outcome) i) (levelsOf (a .set .levels) (n i)) (a .samples-per-channel) (now (a .frame)) (viewOf (a .self))
 
 returns : tie.Need-returns
 returns c =
-    let k = c .before .before .before in
-    let s = k .before in
-    refused s (k .shared-slice-known .given) VolumeCount (of-parts s _ _ _ (ne-eqb _ _ (c .if1 .taken)) refl refl)
-
-returns-2 : tie.Need-returns-2
-returns-2 c =
-    let i = c .before .before in
-    let k = i .before .before .before in
-    let s = k .before in
-    refused s (k .shared-slice-known .given) InputVolume (of-parts s _ _ _ (eq-eqb _ _ (i .if1 .left)) (not-true _ (c .if2 .taken)) refl)
-
-cast-frame-fits : tie.Need-cast-frame-fits
-cast-frame-fits c = let s = c .before .before .before .before .before .before .before in omega (arith, s .pre .control .channels .high)
-
-frame-fits-requires : tie.Need-frame-fits-requires
-frame-fits-requires c κs = search needs
-
-returns-3 : tie.Need-returns-3
-returns-3 c =
-    let j = c .before .before .before in
-    let i = j .before .before in
-    let k = i .before .before .before in
-    let s = k .before in
-    refused s (k .shared-slice-known .given) FrameSize (of-parts s _ _ _ (eq-eqb _ _ (i .if1 .left)) (not-false _ (j .if2 .left)) (sym (c .before .frame-fits .ensures) ∙ not-true _ (c .if3 .taken)))
+    let o = c .before in
+    let f = o .before .before in
+    let e = by-outcome f _ (o .outcome .given .1) in
+    record { good = start f .pre; typed = f .before .shared-slice-known .given; reply = sym (ap (λ (x : Stepped). x .reply) e); view = sym (ap (λ (x : Stepped). x .state) e); same = λ other q. refl }
 
 set-applied-input-volumes-requires : tie.Need-set-applied-input-volumes-requires
 set-applied-input-volumes-requires c κs = search needs
 
 -- the controller with the volumes applied
-applied-whole : (c : tie.After-set-applied-input-volumes) → let s = c .before .before .before .before .before .before .before .before .before .before .before .before .before in
+abbrev outcome-of : tie.After-set-applied-input-volumes → tie.After-frame-outcome
+outcome-of c = c .before .before .before .before .before .before
+
+applied-whole : (c : tie.After-set-applied-input-volumes) → let s = start (outcome-of c) in
     Becomes (withVolumesApplied (levelsOf (s .args .set .levels) (s .args .self .control .channels .count)) (viewOf (s .args .self))) (together (c .set-applied-input-volumes .result) (s .args .self .predictor))
 unfolding viewOf
-applied-whole c = let s = c .before .before .before .before .before .before .before .before .before .before .before .before .before in with-control (s .args .self) _ _ (s .pre) (c .set-applied-input-volumes .ensures) (applied-count _ _)
+applied-whole c = let s = start (outcome-of c) in with-control (s .args .self) _ _ (s .pre) (c .set-applied-input-volumes .ensures) (applied-count _ _)
+
+-- a frame that is taken fits
+taken-fits : (counted inside fits within : Bool) → testedAs counted inside fits within ≡ Accepted → fits ≡ true
+taken-fits false inside fits within e = let z : _≡_ {A = ℕ} 0 1 = cc in absurd (omega arith)
+taken-fits true false fits within e = let z : _≡_ {A = ℕ} 0 1 = cc in absurd (omega arith)
+taken-fits true true false within e = let z : _≡_ {A = ℕ} 0 1 = cc in absurd (omega arith)
+taken-fits true true true within e = refl
+
+taken : (c : tie.After-set-applied-input-volumes) → outcome-of c .frame-outcome .result ≡ Accepted
+taken c = c .before .before .before .before .enum-told .given .1
 
 accepted-requires : tie.Need-accepted-requires
 accepted-requires c κs =
-    let f = c .before .before .before .before in
-    let s = f .before .before .before .before .before .before .before .before .before in
+    let o = outcome-of c in
+    let a = start o .args in
     let b = applied-whole c .good in
-    (b, ap (λ (n : ℕ). frameFits n (s .args .samples-per-channel) (now (s .args .frame))) (sym (b .counts) ∙ s .pre .counts) ∙ sym (f .before .frame-fits .ensures) ∙ not-false _ (f .if3 .left))
+    (b, ap (λ (n : ℕ). frameFits n (a .samples-per-channel) (now (a .frame))) (sym (b .counts) ∙ start o .pre .counts) ∙ taken-fits (eqb (a .set .count) (a .self .control .channels .count)) (a .set .inside) _ (isWithin (a .most) (a .self .control .channels .count) (a .samples-per-channel)) (sym (o .frame-outcome .ensures) ∙ taken c))
 
-returns-4 : tie.Need-returns-4
+returns-2 : tie.Need-returns-2
 unfolding viewOf controlOf withAppliedInputVolumes aggregated
-returns-4 c =
+returns-2 c =
     let a = c .before in
-    let h = a .before .before .before .before in
-    let j = h .before .before .before in
-    let i = j .before .before in
-    let k = i .before .before .before in
-    let s = k .before in
-    let e = of-parts s _ _ _ (eq-eqb _ _ (i .if1 .left)) (not-false _ (j .if2 .left)) (sym (h .before .frame-fits .ensures) ∙ not-false _ (h .if3 .left)) in
+    let o = outcome-of a in
+    let s = start o in
+    let e = by-outcome o _ (taken a) in
     let f = framed-same (λ j. ifUsed (applied-whole a .is j .control .used) (s .args .samples-per-channel) (now (s .args .frame)) (applied-whole a .is j)) (c .accepted .ensures) in
-    record { good = f .good; typed = k .shared-slice-known .given; reply = f .reply ∙ sym (ap (λ (x : Stepped). x .reply) e); view = f .view ∙ sym (ap (λ (x : Stepped). x .state) e); same = λ cause q. absurd (f .accepted cause q) }
+    record { good = f .good; typed = o .before .shared-slice-known .given; reply = f .reply ∙ sym (ap (λ (x : Stepped). x .reply) e); view = f .view ∙ sym (ap (λ (x : Stepped). x .state) e); same = λ cause q. absurd (f .accepted cause q) }
 
 pub analyze-volumes-spec : {M : Type 1} → statement M
-analyze-volumes-spec = tie.close (tie.spec returns returns-2 cast-frame-fits frame-fits-requires returns-3 set-applied-input-volumes-requires accepted-requires returns-4)
+analyze-volumes-spec = tie.close (tie.spec frame-outcome-requires enum-known-outcome enum-told set-applied-input-volumes-requires accepted-requires returns returns-2)

@@ -20,11 +20,11 @@ number-requires c κs = search needs
 array-share-prefix-space : tie.Need-array-share-prefix-space
 array-share-prefix-space c = search needs
 
-slice-aggregate-analyze-input-audio : tie.Need-slice-aggregate-analyze-input-audio
-slice-aggregate-analyze-input-audio c = let f = c .before .before .before .before .floats in omega (arith, length-take (f .result) (f .last .1 .1 .0), f .ensures)
+slice-aggregate-analyzed : tie.Need-slice-aggregate-analyzed
+slice-aggregate-analyzed c = let f = c .before .before .before .before .floats in omega (arith, length-take (f .result) (f .last .1 .1 .0), f .ensures)
 
-analyze-input-audio-requires : tie.Need-analyze-input-audio-requires
-analyze-input-audio-requires c κs = search needs
+analyzed-requires : tie.Need-analyzed-requires
+analyzed-requires c κs = search needs
 
 told-requires : tie.Need-told-requires
 told-requires c κs = search needs
@@ -41,7 +41,7 @@ framed-spec =
     samples-requires
     number-requires
     array-share-prefix-space
-    slice-aggregate-analyze-input-audio
-    analyze-input-audio-requires
+    slice-aggregate-analyzed
+    analyzed-requires
     told-requires
     returns)
