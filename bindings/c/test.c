@@ -181,7 +181,7 @@ static uint32_t through_spotter(agc2_controller *c, const any_frame *f) {
                    : agc2_spotter_analyze_input_audio(c, f->volumes[0], f->samples_per_channel, f->samples, f->count);
 }
 
-/* A frame for the spotter's entry; one in four is refused as the plain entry refuses, and of the others those of more than 160 samples. */
+/* A frame for the spotter's entry: some are over its 160 samples, and some have what the plain entry refuses too, a set of another length, a volume that is none, or a sample too many. */
 static any_frame spotters_frame(size_t channels, const float *samples, uint32_t seed) {
     any_frame f = {1 + below(&seed, 200), 0, samples, (int)below(&seed, 2), {0}, channels};
     if (below(&seed, 4) == 0) {

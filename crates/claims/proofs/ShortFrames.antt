@@ -87,6 +87,8 @@ spotter-narrows : (c : Controller) (volumes : List ℤ) (samples : ℕ) (lent : 
     → step c (frame spotterLimits volumes samples lent) ≡ narrowed short samples c (step c (frame plainLimits volumes samples lent))
 spotter-narrows c volumes samples lent = narrows spotterLimits c volumes samples lent (spotter-inside (length (c .control .channels)) samples lent)
 
+-- ---- the plain entry never says 18
+
 plain-never : (c : Controller) (volumes : List ℤ) (samples : ℕ) (lent : List Float) → length (c .control .channels) ≤ 8 → step c (frame plainLimits volumes samples lent) .reply ≡ refusal 18 → ⊥
 unfolding analyzeInputAudio
 plain-never c volumes samples lent h e =

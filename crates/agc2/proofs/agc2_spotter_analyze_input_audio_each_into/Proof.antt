@@ -3,8 +3,8 @@ use contract.Running.{givenOf, tables, tablesOf}
 use denote.Triple.Spec.{tripleOf}
 use denote.Triple.Table.{entered, cited}
 use Rattle.input_volume_controller.specs.Limits.{spotterLimits}
-use Rattle.agc2.proofs.Frames.{Analyze}
-use Rattle.agc2.proofs.EachVolumeInto.{Make, into-meets}
+use Rattle.agc2.proofs.Frames.{Analyze, into-meets}
+use Rattle.agc2.proofs.EachVolumeInto.{first, volumes, Make, making}
 use Rattle.agc2.proofs.given.spotter_each_volume.Symbol as maker-def
 use Rattle.agc2.proofs.given.spotter_each_volume.Symbol.{name as #maker}
 use Rattle.agc2.proofs.given.spotter_each_volume.Met as maker-thm
@@ -21,6 +21,7 @@ unfolding code.routine tablesOf
 agc2-spotter-analyze-input-audio-each-into-spec 𝓤 H 𝓜 𝓖 𝓡 =
     entered 𝓤 H (tripleOf 𝓤 H (𝓖 .A) into.signature (into.spec 𝓤 H (𝓖 .A) (𝓜 .mem) (𝓡 .run)))
     (tables 𝓤 H 𝓜 𝓡 code.env .C) (tables 𝓤 H 𝓜 𝓡 code.env .Λ) #into code.function (code.unfolded 𝓤 H 𝓜 𝓡)
-    (into-meets spotterLimits #maker 𝓤 H (𝓖 .A) (givenOf 𝓤 H 𝓜 𝓖) (𝓜 .mem) (𝓡 .run) (tablesOf 𝓤 H 𝓜 (tables 𝓤 H 𝓜 𝓡 code.env))
-    (cited 𝓤 H (Make 𝓤 spotterLimits H (𝓖 .A)) 𝓜 𝓡 code.env #maker maker-def.routine code.calls-agc2·given·spotter-each-volume (maker-thm.met 𝓤 H 𝓜 𝓖 𝓡))
+    (into-meets first 2 tt volumes spotterLimits #maker 𝓤 H (𝓖 .A) (givenOf 𝓤 H 𝓜 𝓖) (𝓜 .mem) (𝓡 .run) (tablesOf 𝓤 H 𝓜 (tables 𝓤 H 𝓜 𝓡 code.env))
+    (making spotterLimits #maker 𝓤 H (𝓖 .A) (givenOf 𝓤 H 𝓜 𝓖) (tables 𝓤 H 𝓜 𝓡 code.env .C)
+    (cited 𝓤 H (Make 𝓤 spotterLimits H (𝓖 .A)) 𝓜 𝓡 code.env #maker maker-def.routine code.calls-agc2·given·spotter-each-volume (maker-thm.met 𝓤 H 𝓜 𝓖 𝓡)))
     (cited 𝓤 H (Analyze 𝓤 H (𝓖 .A) (𝓜 .mem) (𝓡 .run)) 𝓜 𝓡 code.env #callee callee-def.routine code.calls-agc2·analyzed-into (callee-thm.met 𝓤 H 𝓜 𝓖 𝓡)))
