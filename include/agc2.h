@@ -212,7 +212,7 @@ static inline uint32_t agc2_analyze_input_audio_each(agc2_controller *controller
 }
 
 /* The word spotter's entry: a frame of at most 2 channels and 160 samples per channel. A larger one is refused with 18, after every refusal of agc2_analyze_input_audio (8 and 9), and changes nothing;
- * any other frame is agc2_analyze_input_audio, byte for byte. The controller may be any, and both entries may be used on it. */
+ * any other frame is agc2_analyze_input_audio, byte for byte. So a controller of more than 2 channels takes no frame here. Both entries may be used on one controller. */
 static inline uint32_t agc2_spotter_analyze_input_audio(agc2_controller *controller, int32_t applied_input_volume, size_t samples_per_channel, const float *samples, size_t count) {
     agc2_spotter_analyze_input_audio_into(controller, applied_input_volume, samples_per_channel, samples, count);
     return controller->refusal;

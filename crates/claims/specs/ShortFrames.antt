@@ -1,7 +1,7 @@
 -- A speech caller with short frames. Document 02 (viii): "The word spotter calls with at most 2 channels and 160 samples each, and must not be able to pass more by accident. The 8 and 480 stay for everybody else, and
 -- one statement covers both pairs of limits. It refuses with 18 a frame through the spotter's entry with more channels or samples per channel than its own limits, after all refusals of the larger entry, and otherwise
 -- answers as that entry does." Here of every frame from any state, and of the code, by the contracts of `InputVolumeController::{analyze_input_audio_each, spotter_analyze_input_audio_each}`; with one volume for all
--- channels an entry is that with equal ones (`AnalyzedOf`). Definitions only.
+-- channels an entry is that with equal ones (`AnalyzedOf`), and the static library's say the reply and the state of the same `step` (agc2/specs/Calls.antt). Definitions only.
 use mathlib.Core.Path.{_≡_}
 use mathlib.Core.Bool.{Bool, true, false, not, _&&_}
 use mathlib.Core.List.{List}
