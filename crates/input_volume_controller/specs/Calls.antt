@@ -93,7 +93,7 @@ pub record Framed (s : Stepped) (r : Analyzed) : Type 0 where
   pub view : viewOf (r .controller) ≡ s .state
   pub accepted : (cause : Refusal) → r .answer ≡ Refused cause → ⊥
 
--- a frame whose volumes are taken apart
+-- a frame whose volumes are taken apart: its tests, and what it does
 abbrev pub setOutcome : Limits → ℕ → VolumeSet → ℕ → List Float → Outcome
 setOutcome most channels set samples lent = testedAs (eqb (set .count) channels) (set .inside) (frameFits channels samples lent) (isWithin most channels samples)
 

@@ -68,7 +68,7 @@ testedAs true true false within = Refused FrameSize
 testedAs true true true false = Refused FrameLimits
 testedAs true true true true = Accepted
 
--- a frame of so many channels
+-- of a frame with this set, to a controller of so many channels
 abbrev pub frameOutcome : Limits → ℕ → List ℤ → ℕ → List Float → Outcome
 frameOutcome most channels volumes samples lent = testedAs (eqb (length volumes) channels) (areNumbers (numbersOf volumes)) (frameFits channels samples lent) (isWithin most channels samples)
 
@@ -91,7 +91,7 @@ module _ (predicted : Asked → Predictor → Estimated) where
       (record { control = c .control; predictor = enteredIf true samples lent (c .predictor) })
   ifUsedBy false samples lent c = record { reply = mark false; state = c }
 
-  -- what the tests say is done
+  -- a frame that is refused hands the state back; one that is taken applies its volumes first
   abbrev pub unlessRefusedBy : Outcome → List ℕ → ℕ → List Float → Controller → Stepped
   unlessRefusedBy (Refused cause) volumes samples lent c = refusedWith cause c
   unlessRefusedBy Accepted volumes samples lent c = ifUsedBy (c .control .used) samples lent (withVolumesApplied volumes c)
