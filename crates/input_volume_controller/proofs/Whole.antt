@@ -8,6 +8,9 @@ use native.Mathlib.Omega.{arith}
 use lib.Dec.{T, ltb, eqb, eqb→eq}
 use lib.IntN.{ℤ}
 use lib.Ieee.{Float}
+use mir.Syntax.{w32}
+use mir.Val.{ofZ, toZ, SFits}
+use mir.ValLaws.{toZ-ofZ}
 use borrow.Author.Tests.{lt-ltb, le-ltb}
 use lib.ListN.{length, length-map, getD}
 use Rattle.numbers.specs.declared.refusal.Refusal.{Refusal}
@@ -37,7 +40,7 @@ use Rattle.input_volume_controller.specs.Controller.{Controller, togethe
 use Rattle.input_volume_controller.specs.Reply.{Reply, mark, Stepped}
 use Rattle.input_volume_controller.specs.Differ.{differ}
 use Rattle.input_volume_controller.specs.Frame.{testedAs, askedOf, handled, unlessWaiting, unlessRefused, analyzeInputAudio}
-use Rattle.input_volume_controller.specs.Calls.{Call, frame, step, Typed, Does, ControlDoes, Framed, analyzeSet, AnalyzedSetOf, AnalyzedEachOf}
+use Rattle.input_volume_controller.specs.Calls.{Call, frame, step, Typed, Does, ControlDoes, Framed, analyzeSet, AnalyzedSetOf, AnalyzedEachOf, AnalyzedOf}
 use Rattle.input_volume_controller.proofs.ChannelLists.{count-is}
 
 -- ---- its two parts
@@ -202,6 +205,12 @@ module _ (most : Limits) (self : InputVolumeController) (good : Good self) (volu
 pub at-limits : {made most : Limits} {self : InputVolumeController} {volumes : List ℤ} {samples : ℕ} {lent : List Float} {r : Analyzed} → made ≡ most → AnalyzedEachOf made self volumes samples lent r
     → AnalyzedEachOf most self volumes samples lent r
 at-limits {self = self} {volumes = volumes} {samples = samples} {lent = lent} {r = r} e a = subst (λ (limits : Limits). AnalyzedEachOf limits self volumes samples lent r) e a
+
+-- with one volume, which the machine has read back
+pub one-at-limits : {made most : Limits} {self : InputVolumeController} {samples : ℕ} {lent : List Float} {r : Analyzed} (volume : ℤ) → SFits w32 volume → made ≡ most
+    → AnalyzedOf made self (toZ w32 (ofZ w32 volume)) samples lent r → AnalyzedOf most self volume samples lent r
+one-at-limits {made = made} {self = self} {samples = samples} {lent = lent} {r = r} volume fits e a =
+    at-limits e (subst (λ (v : ℤ). AnalyzedOf made self v samples lent r) (toZ-ofZ w32 volume fits) a)
 
 -- a frame within the wait, and after it
 module _ (clipped : Bool) (since wait : ℕ) (c : Controller) where

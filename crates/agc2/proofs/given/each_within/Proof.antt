@@ -1,7 +1,6 @@
 -- `given::each_within` meets its contract. Assumes nothing.
-use mathlib.Core.Path.{_≡_, refl}
-use Prim.Native.Nat.{ℕ}
-use native.Mathlib.Omega.{arith}
+use mathlib.Core.Path.{refl, sym}
+use Rattle.numbers.proofs.Signs.{clash}
 use borrow.Author.Needs.{needs}
 use Rattle.agc2.proofs.given.each_within.Statement.{statement}
 use Rattle.agc2.proofs.given.each_within.Tie as tie
@@ -12,7 +11,7 @@ lent-volumes-requires c κs = search needs
 returns : tie.Need-returns
 returns c = record {
   within = refl;
-  gives = λ channels. record { one = λ t. absurd (let z : _≡_ {A = ℕ} 0 1 = cc in omega arith); each = λ f. c .lent-volumes .ensures };
+  gives = λ channels. record { one = λ t. clash (sym t); each = λ f. c .lent-volumes .ensures };
 }
 
 pub each-within-spec : {M : Type 1} → statement M

@@ -1,10 +1,9 @@
 -- `given::one_within` meets its contract. Assumes nothing.
-use mathlib.Core.Path.{_≡_, refl, sym, ap}
-use Prim.Native.Nat.{ℕ}
-use native.Mathlib.Omega.{arith}
+use mathlib.Core.Path.{refl, sym, ap}
 use lib.IntN.{ℤ}
 use mir.Syntax.{w32}
 use mir.ValLaws.{toZ-ofZ}
+use Rattle.numbers.proofs.Signs.{clash}
 use Rattle.input_volume_controller.specs.Volumes.{equalVolumes}
 use Rattle.agc2.proofs.given.one_within.Statement.{statement}
 use Rattle.agc2.proofs.given.one_within.Tie as tie
@@ -14,7 +13,7 @@ returns c = record {
   within = refl;
   gives = λ channels. record {
     one = λ t. ap (λ (v : ℤ). equalVolumes v channels) (sym (toZ-ofZ w32 (c .args .volume) (c .fits .volume)));
-    each = λ f. absurd (let z : _≡_ {A = ℕ} 0 1 = cc in omega arith);
+    each = clash;
   };
 }
 
