@@ -133,7 +133,7 @@ class Counts:
     def of_controller(self, kind, fields, refused):
         if refused:
             return
-        if kind in "NK":
+        if kind in "NKO":
             self.controller = Rings(int(fields[0]), fields[6] == "1")
         elif kind in "ABVW" and fields:
             self.controller.enter(fields[-1])

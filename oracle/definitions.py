@@ -20,12 +20,15 @@ LEVELS = "crates/levels/specs/"
 GAIN = "crates/gain_map/specs/"
 RING = "crates/clipping_predictor_level_buffer/specs/"
 PREDICTOR = "crates/clipping_predictor/specs/"
+MONO = "crates/mono_input_volume_controller/specs/"
 IVC = "crates/input_volume_controller/specs/"
 LIBRARY = "crates/agc2/specs/"
 MARKED = "reply = mark (differ clipped (c .control) (e .low) (e .high));"
 RECOMMENDED = "reply = volume (pos (processChannels probability level (c .control) .volume));"
 APPLIED = "withAppliedInputVolumes volumes c = aggregated (withApplied (Volume (lowestOf volumes)) (withChannels (eachGiven volumes (c .channels)) c))"
 CONTROLLING = "(aggregateOf (c .channels) .channel) c"
+THRESHOLD = "∷ inUnit (c .«clipped_ratio_threshold»)"
+RATIO = "(clippedRatio (length (c .control .channels)) samples lent)"
 
 # What is wrong, the claim that is false of it, and for each file the text that is replaced and what replaces it. More claims may fall, since a proof may use more than its claim says:
 # the one that is named is false, by a case that the claim covers.
@@ -260,6 +263,38 @@ EDITS = [
          "abbrev pub stateIf : Bool → Controller → Controller → Controller\nstateIf true taken c = taken\nstateIf false taken c = c\n\n-- a refusal hands the state back\n"),
         (IVC + "Frame.antt", "(Refused cause) volumes samples lent c = refusedWith cause c",
          "(Refused cause) volumes samples lent c = refusedWith cause (stateIf (eqb (numberOf cause) 18) (withVolumesApplied volumes c) c)")]),
+    # ---- document 02 (xii)
+    # with a minimum of 20 and a level of 10 a channel whose last volume is 30 is moved to 15
+    ("the classroom takes a clipped_level_min below the minimum", "ClassroomKeepsMinimum", [
+        (MONO + "Profile.antt", "∷ leZ (c .«min_input_volume») (c .«clipped_level_min»)", "∷ leZ (c .«min_input_volume») (c .«min_input_volume»)")]),
+    ("clipping lowers a channel past clipped_level_min", "ClassroomKeepsMinimum", [
+        (MONO + "Mono.antt", "lowered m step volume = max (m .floor) (volume - step)", "lowered m step volume = volume - step")]),
+    # below 0 every frame is clipping, and the count since clipping stays what the past made it
+    ("the classroom takes any clipped-ratio threshold", "TwoPastsInClassroom", [
+        (MONO + "Profile.antt", THRESHOLD, "∷ true")]),
+    ("19 is tested before 6", "RefusedCalls", [
+        (IVC + "Profile.antt", "refusedOutside (Refused cause) plain = plain", "refusedOutside (Refused cause) plain = unmade ClassroomProfile")]),
+    ("the classroom refuses a threshold of 1", "RefusedCalls", [
+        (MONO + "Profile.antt", THRESHOLD, "∷ (inUnit (c .«clipped_ratio_threshold») && lib.Ieee.lt (c .«clipped_ratio_threshold») (lib.Ieee.ofInt lib.Ieee.binary32 (pos 1)))")]),
+    ("the classroom takes a threshold that is not a number", "RefusedCalls", [
+        (MONO + "Profile.antt", "use mathlib.Core.Bool.{Bool, true, _&&_}", "use mathlib.Core.Bool.{Bool, true, not, _&&_}"),
+        (MONO + "Profile.antt", THRESHOLD,
+         "∷ (not (lib.Ieee.lt (c .«clipped_ratio_threshold») (lib.Ieee.ofInt lib.Ieee.binary32 (pos 0))) && not (lib.Ieee.lt (lib.Ieee.ofInt lib.Ieee.binary32 (pos 1)) (c .«clipped_ratio_threshold»)))")]),
+    ("the classroom takes crossed targets", "RefusedCalls", [
+        (MONO + "Profile.antt", "∷ leZ (c .«target_range_min_dbfs») (c .«target_range_max_dbfs»)", "∷ true")]),
+    ("the classroom takes all settings", "ClassroomIsNeeded", [
+        (MONO + "Profile.antt", "takes Classroom c = allHold (classroomConditions c)", "takes Classroom c = true")]),
+    ("the classroom takes one wait below 100", "RefusedCalls", [
+        (MONO + "Profile.antt", "(leZ (pos 100) (c .«clipped_wait_frames») && leZ", "(leZ (pos 100) (c .«clipped_wait_frames») || leZ"),
+        (MONO + "Profile.antt", "use mathlib.Core.Bool.{Bool, true, _&&_}", "use mathlib.Core.Bool.{Bool, true, _&&_, _||_}")]),
+    # then the default settings are not the classroom's
+    ("the classroom's minimum is 21 to 70", "ClassroomIsNeeded", [
+        (MONO + "Profile.antt", "∷ inRange (pos 20) (pos 70)", "∷ inRange (pos 21) (pos 70)")]),
+    # then no word on the threshold is needed, and `word-needed` is false
+    ("a frame without a clipped sample is never clipping", "PartsAreNeeded", [
+        (IVC + "Frame.antt", "use mathlib.Core.Bool.{Bool, true, false, _||_}", "use mathlib.Core.Bool.{Bool, true, false, _||_, _&&_}"),
+        (IVC + "Frame.antt", "(lt (c .control .settings .«clipped_ratio») " + RATIO + ")",
+         "(lt (lib.Ieee.ofInt lib.Ieee.binary32 (lib.IntN.pos 0)) " + RATIO + " && lt (c .control .settings .«clipped_ratio») " + RATIO + ")")]),
 ]
 
 

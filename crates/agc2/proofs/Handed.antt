@@ -20,16 +20,17 @@ use Rattle.input_volume_controller.specs.declared.volume_control.ControlRecomme
 use Rattle.input_volume_controller.specs.declared.plain.PlainControl.{PlainControl}
 use Rattle.input_volume_controller.specs.declared.InputVolumeController.{InputVolumeController}
 use Rattle.input_volume_controller.specs.Control.{Good as GoodControl}
-use Rattle.input_volume_controller.specs.Controller.{together, viewOf, Good, Becomes}
+use Rattle.input_volume_controller.specs.Controller.{together, viewOf, Good, Becomes, basePredictor}
 use Rattle.input_volume_controller.specs.Controller as Making
 use Rattle.input_volume_controller.specs.Reply.{Reply, refusal, analysisSays, recommendationSays}
 use Rattle.input_volume_controller.specs.Calls.{Call, ControlDoes}
 use Rattle.input_volume_controller.specs.Calls as Calls
-use Rattle.input_volume_controller.specs.Plain.{wholeControl, plainControl}
+use Rattle.input_volume_controller.specs.Plain.{wholeControl, plainControl, modeOf}
 use Rattle.input_volume_controller.proofs.Numbered.{control-again, predictor-again}
 use Rattle.agc2.specs.declared.answers.FrameNumbers.{FrameNumbers}
 use Rattle.agc2.specs.declared.answers.VolumeNumbers.{VolumeNumbers}
 use Rattle.agc2.specs.declared.answers.Agc2Controller.{Agc2Controller}
+use Rattle.agc2.specs.Settings.{predictorConfigOf, predictorInNumbers}
 use Rattle.agc2.specs.Whole.{wholeOf, besideOf}
 use Rattle.agc2.specs.Answers.{outcomeNumber, frameNumbers, volumeNumbers}
 use Rattle.agc2.specs.declared.given.GivenVolumes.{GivenVolumes}
@@ -58,6 +59,11 @@ does {q} {s} {c} d {call} {says} w e h =
     subst (λ (x : VolumeControl). ControlDoes x call says (wholeControl q)) w (subst (λ (x : VolumeControl). ControlDoes c call says x) (sym (control-back d e)) h)
 
 -- ---- a making
+
+-- the base's predictor in numbers stands for the base's predictor
+pub base-back : predictorConfigOf (predictorInNumbers basePredictor) ≡ basePredictor
+unfolding predictorConfigOf modeOf
+base-back = refl
 
 pub created : {making : Making.Making} (m : Created) {n : ℕ} {r : Agc2Controller} → n ≡ outcomeNumber (outcomeSays (m .answer)) → r ≡ besideOf n 0 (m .controller) → Making.CreatedAs making m → CreatedAs making r
 created {making} m {n} {r} f e h =

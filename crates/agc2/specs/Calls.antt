@@ -7,13 +7,16 @@ use lib.Ieee.{Float}
 use Rattle.numbers.specs.Said.{outcomeSays}
 use Rattle.clipping_predictor.specs.declared.settings.ClippingPredictorConfig.{ClippingPredictorConfig}
 use Rattle.mono_input_volume_controller.specs.declared.config.Config.{Config}
+use Rattle.mono_input_volume_controller.specs.declared.profile.Profile.{Profile}
+use Rattle.mono_input_volume_controller.specs.declared.profile.Profile.the-variants.{Plain}
 use Rattle.mono_input_volume_controller.specs.declared.speech_level.SpeechLevel.{SpeechLevel}
 use Rattle.input_volume_controller.specs.declared.limits.Limits.{Limits}
 use Rattle.input_volume_controller.specs.declared.volume_control.VolumeControl.{VolumeControl}
 use Rattle.input_volume_controller.specs.declared.InputVolumeController.{InputVolumeController}
 use Rattle.input_volume_controller.specs.Plain.{wholeControl}
 use Rattle.input_volume_controller.specs.Volumes.{equalVolumes}
-use Rattle.input_volume_controller.specs.Controller.{viewOf, Becomes, Making, basePredictor, makingWith}
+use Rattle.input_volume_controller.specs.Controller.{viewOf, Becomes, Making, basePredictor}
+use Rattle.input_volume_controller.specs.Profile.{makingIn}
 use Rattle.input_volume_controller.specs.Reply.{Reply, Stepped}
 use Rattle.input_volume_controller.specs.Reply.{refusal as refused}
 use Rattle.input_volume_controller.specs.Calls.{Call, frame, recommendation, step, Typed, ControlDoes}
@@ -29,15 +32,19 @@ pub record Unanswered (c : Agc2Control) : Type 0 where
   pub present : c .present ≡ 0
   pub volume : c .volume ≡ pos 0
 
--- a making, with any predictor and with the base's
+-- a making
 pub record CreatedAs (making : Making) (r : Agc2Controller) : Type 0 where
   pub refusal : r .refusal ≡ outcomeNumber (outcomeSays (making .answer))
   pub near : r .near ≡ 0
   pub unanswered : Unanswered (r .control)
   pub becomes : Becomes (making .controller) (wholeOf r)
 
+-- within a profile; the plain one with any predictor, and with the base's
+abbrev pub CreatedIn : Profile → ℤ → Config → ClippingPredictorConfig → Agc2Controller → Type 0
+CreatedIn profile channels config predictor r = CreatedAs (makingIn profile channels config predictor) r
+
 abbrev pub CreatedWith : ℤ → Config → ClippingPredictorConfig → Agc2Controller → Type 0
-CreatedWith channels config predictor r = CreatedAs (makingWith channels config predictor) r
+CreatedWith channels config predictor r = CreatedIn Plain channels config predictor r
 
 abbrev pub CreatedOf : ℤ → Config → Agc2Controller → Type 0
 CreatedOf channels config r = CreatedWith channels config basePredictor r

@@ -7,7 +7,7 @@ ghost use lib.ListN.{getD};
 ghost use Rattle.numbers.specs.Flag.{isSet};
 ghost use Rattle.clipping_predictor_level_buffer.specs.Ring.{storedSays, storedAt};
 ghost use Rattle.clipping_predictor_level_buffer.specs.Metrics.{metricsSays};
-ghost use Rattle.input_volume_controller.specs.Controller.{Good, viewOf};
+ghost use Rattle.input_volume_controller.specs.Controller.{Good, viewOf, basePredictor};
 ghost use Rattle.input_volume_controller.specs.Control.{controlOf};
 ghost use Rattle.input_volume_controller.specs.Control.{Good as GoodControl};
 ghost use Rattle.input_volume_controller.specs.Limits.{plainLimits, spotterLimits};
@@ -18,7 +18,7 @@ ghost use Rattle.input_volume_controller.specs.ChannelMetrics.{channelMetrics};
 ghost use Rattle.agc2.specs.Settings.{configOf, predictorConfigOf};
 ghost use Rattle.agc2.specs.Answers.{recordOf, metricsOf, speechLevelOf};
 ghost use Rattle.agc2.specs.Whole.{wholeOf, besideOf};
-ghost use Rattle.agc2.specs.Calls.{CreatedWith, CreatedOf, AnalyzedGivenOf, AnalyzedOf, AnalyzedEachOf, RecommendedOf};
+ghost use Rattle.agc2.specs.Calls.{CreatedIn, CreatedWith, CreatedOf, AnalyzedGivenOf, AnalyzedOf, AnalyzedEachOf, RecommendedOf};
 use crate::answers::Agc2Control;
 use crate::answers::Agc2Controller;
 use crate::answers::Agc2Metrics;
@@ -32,6 +32,7 @@ use input_volume_controller::plain::plain_control;
 use input_volume_controller::plain::plain_predictor;
 use input_volume_controller::plain::whole_control;
 use input_volume_controller::plain::whole_predictor;
+use mono_input_volume_controller::profile::Profile;
 
 pub mod answers;
 mod given;
@@ -69,16 +70,17 @@ fn beside(refusal: u32, near: u32, c: InputVolumeController) -> Agc2Controller
     }
 }
 
-// With any predictor: causes 1 to 6, and then, with the predictor off too, 7, 14 and 15.
-#[no_mangle]
-pub extern "C" fn agc2_new_with_predictor_by_value(
+// Within a profile, with any predictor. Every making comes here.
+fn created(
+    profile: Profile,
     num_capture_channels: i32,
     config: Agc2Config,
     predictor: Agc2PredictorConfig,
 ) -> Agc2Controller
-    ensures { λ r. ⌜ CreatedWith «num_capture_channels» (configOf config) (predictorConfigOf predictor) r ⌝ }
+    ensures { λ r. ⌜ CreatedIn profile «num_capture_channels» (configOf config) (predictorConfigOf predictor) r ⌝ }
 {
-    let made = InputVolumeController::with_predictor(
+    let made = InputVolumeController::in_profile(
+        profile,
         num_capture_channels,
         settings::config_of(config),
         settings::predictor_config_of(predictor),
@@ -88,12 +90,53 @@ pub extern "C" fn agc2_new_with_predictor_by_value(
     beside(answers::outcome_number(answer), 0, controller)
 }
 
+// With any predictor: causes 1 to 6, and then, with the predictor off too, 7, 14 and 15.
+#[no_mangle]
+pub extern "C" fn agc2_new_with_predictor_by_value(
+    num_capture_channels: i32,
+    config: Agc2Config,
+    predictor: Agc2PredictorConfig,
+) -> Agc2Controller
+    ensures { λ r. ⌜ CreatedWith «num_capture_channels» (configOf config) (predictorConfigOf predictor) r ⌝ }
+{
+    created(Profile::Plain, num_capture_channels, config, predictor)
+}
+
 // With the base's predictor: causes 1 to 6.
 #[no_mangle]
 pub extern "C" fn agc2_new_by_value(num_capture_channels: i32, config: Agc2Config) -> Agc2Controller
     ensures { λ r. ⌜ CreatedOf «num_capture_channels» (configOf config) r ⌝ }
 {
-    agc2_new_with_predictor_by_value(
+    created(
+        Profile::Plain,
+        num_capture_channels,
+        config,
+        settings::agc2_default_predictor_config(),
+    )
+}
+
+// For group teaching, with any predictor: causes 1 to 6, 7, 14 and 15, and then 19.
+#[no_mangle]
+pub extern "C" fn agc2_new_classroom_with_predictor_by_value(
+    num_capture_channels: i32,
+    config: Agc2Config,
+    predictor: Agc2PredictorConfig,
+) -> Agc2Controller
+    ensures { λ r. ⌜ CreatedIn Profile.Classroom «num_capture_channels» (configOf config) (predictorConfigOf predictor) r ⌝ }
+{
+    created(Profile::Classroom, num_capture_channels, config, predictor)
+}
+
+// For group teaching, with the base's predictor: causes 1 to 6, and then 19.
+#[no_mangle]
+pub extern "C" fn agc2_new_classroom_by_value(
+    num_capture_channels: i32,
+    config: Agc2Config,
+) -> Agc2Controller
+    ensures { λ r. ⌜ CreatedIn Profile.Classroom «num_capture_channels» (configOf config) basePredictor r ⌝ }
+{
+    created(
+        Profile::Classroom,
         num_capture_channels,
         config,
         settings::agc2_default_predictor_config(),

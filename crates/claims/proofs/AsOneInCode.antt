@@ -38,7 +38,7 @@ record Stands (c : InputVolumeController) : Type 0 where
 
 stands : (c : InputVolumeController) → HasPast c → Stands c
 stands c h =
-    let f = making-fresh (h .channels) (h .config) (h .predictor) in
+    let f = making-fresh (h .profile) (h .channels) (h .config) (h .predictor) in
     let r = runs-are-runs _ _ _ _ (h .created .good) (h .run) in
     let new : viewOf (h .made .controller) ≡ freshWith (f .predictor) (f .settings) (f .count) = h .created .view ∙ f .is in
     let count : channelsIn (h .made .controller) ≡ f .count =
@@ -81,9 +81,9 @@ as-one-in-code = record { equal = code-equal; depends = code-depends }
 -- a past of the library's calls is one of the controller that its numbers stand for
 whole-past : (c : Agc2Controller) → HasLibraryPast c → HasPast (wholeOf c)
 whole-past c h =
-    let made = made-created (h .channels) (h .config) (h .predictor) (h .made) (h .created) in
+    let made = made-created (h .profile) (h .channels) (h .config) (h .predictor) (h .made) (h .created) in
     let r = runs-as (h .created .becomes .good) (h .run) in
-    record { channels = h .channels; config = h .config; predictor = h .predictor; made = made .made; created = made .created; calls = h .calls; heard = r .heard; run = r .run; even = h .even }
+    record { profile = h .profile; channels = h .channels; config = h .config; predictor = h .predictor; made = made .made; created = made .created; calls = h .calls; heard = r .heard; run = r .run; even = h .even }
 
 -- the numbers of the calls are those of the replies
 numbersBy : List Call → List Reply → List Numbers

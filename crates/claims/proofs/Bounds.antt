@@ -24,7 +24,7 @@ use Rattle.mono_input_volume_controller.specs.Config.{settingsFrom}
 use Rattle.input_volume_controller.specs.ClippedRatio.{clippedRatio}
 use Rattle.input_volume_controller.specs.Control.{Control}
 use Rattle.input_volume_controller.specs.ControlCalls.{raisedFor, aggregated, processChannels}
-use Rattle.input_volume_controller.specs.Controller.{Controller, makingWith}
+use Rattle.input_volume_controller.specs.Controller.{Controller, Making, makingWith}
 use Rattle.input_volume_controller.specs.Reply.{Reply, mark, refusal, volume, none, done}
 use Rattle.input_volume_controller.specs.Volumes.{numbersOf, numbersIn}
 use Rattle.input_volume_controller.specs.Frame.{withVolumesApplied, frameOutcome, unlessWaiting, ifUsed, unlessRefused, analyzeInputAudio}
@@ -32,6 +32,7 @@ use Rattle.input_volume_controller.specs.Recommendation.{recommendIf, unlessNon
 use Rattle.input_volume_controller.specs.Calls.{Call, frame, recommendation, initialise, captureSwitch, step, after}
 use Rattle.claims.specs.Bounds.{Within, InBounds, AnswersVolumes, Bounds}
 use Rattle.claims.proofs.Walk.{Any, any-by, after-keeps, step-keeps}
+use Rattle.claims.proofs.InProfile.{by-plain}
 use Rattle.claims.proofs.Made.{MadeWith, accepted-making, made-sound, minimum-most, minimum-kept}
 use Rattle.claims.proofs.Sound.{AppliedMost, Sound, sound-kept}
 
@@ -123,4 +124,9 @@ module _ (channels : ℤ) (config : Config) (predictor : ClippingPredictorConfig
   answered-volumes call = sound-answers (settingsFrom config) (minimum-most config _ made) call _ sound
 
 pub bounds : Bounds
-bounds = record { recommendations = bounded; answered = answered-volumes }
+bounds = record {
+  recommendations = λ profile channels config predictor h calls.
+      by-plain profile channels config predictor h (λ (m : Making). InBounds (config .«min_input_volume») (after (m .controller) calls)) (λ k. bounded channels config predictor k calls);
+  answered = λ profile channels config predictor h calls call.
+      by-plain profile channels config predictor h (λ (m : Making). AnswersVolumes (after (m .controller) calls) call) (λ k. answered-volumes channels config predictor k calls call);
+}

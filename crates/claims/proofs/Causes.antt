@@ -30,7 +30,7 @@ less-by a b false e = lt-ltb b a (leb-false a b e)
 pub less-is : (a b : ℕ) → ltb b a ≡ not (leb a b)
 less-is a b = less-by a b (leb a b) refl
 
-lessZ-is : (a b : ℤ) → ltZ b a ≡ not (leZ a b)
+pub lessZ-is : (a b : ℤ) → ltZ b a ≡ not (leZ a b)
 lessZ-is (pos a) (pos b) = less-is a b
 lessZ-is (pos a) (negsuc b) = refl
 lessZ-is (negsuc a) (pos b) = refl

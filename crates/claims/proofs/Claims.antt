@@ -14,7 +14,7 @@ use Rattle.claims.proofs.UnmarkedRun.{unmarked-run-is-exact}
 use Rattle.claims.proofs.TwoPasts.{one-fewer-is-enough}
 use Rattle.claims.proofs.Free.{free-is-unheard}
 use Rattle.claims.proofs.Counts.{counts-are-unread, counts-within}
-use Rattle.claims.proofs.TwoMakings.{two-pasts, two-pasts-by-default}
+use Rattle.claims.proofs.TwoMakings.{two-pasts, two-pasts-in-classroom, two-pasts-by-default}
 use Rattle.claims.proofs.EveryMode.{two-pasts-in-every-mode}
 use Rattle.claims.proofs.Exists.{lead-ins-exist}
 use Rattle.claims.proofs.Accepted.{accepted-is-not-refused}
@@ -29,6 +29,8 @@ use Rattle.claims.proofs.DependsEach.{depends-on-each}
 use Rattle.claims.proofs.AsOneInCode.{as-one-in-code, as-one-in-library}
 use Rattle.claims.proofs.OneVolume.{one-volume}
 use Rattle.claims.proofs.ShortFrames.{short-frames}
+use Rattle.claims.proofs.Classroom.{classroom-keeps-minimum}
+use Rattle.claims.proofs.ClassroomNeeded.{classroom-is-needed}
 use Rattle.claims.proofs.EachTakesItsOwn.{each-takes-its-own}
 use Rattle.claims.proofs.LowestIsApplied.{lowest-is-applied}
 use Rattle.claims.proofs.Controlling.{controlling-is-lowest}
@@ -51,6 +53,7 @@ claims = record {
   unmarked = unmarked-is-exact;
   unmarked-run = unmarked-run-is-exact;
   two-pasts = two-pasts;
+  two-pasts-in-classroom = two-pasts-in-classroom;
   two-pasts-by-default = two-pasts-by-default;
   two-pasts-in-every-mode = two-pasts-in-every-mode;
   lead-ins-exist = lead-ins-exist;
@@ -72,5 +75,7 @@ claims = record {
   controlling-is-lowest = controlling-is-lowest;
   one-volume = one-volume;
   short-frames = short-frames;
+  classroom-keeps-minimum = classroom-keeps-minimum;
+  classroom-is-needed = classroom-is-needed;
   none = none-exactly;
 }

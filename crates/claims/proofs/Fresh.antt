@@ -16,6 +16,7 @@ use Rattle.clipping_predictor.specs.Settings as Predictors
 use Rattle.clipping_predictor.specs.Predictor.{maxChannels}
 use Rattle.clipping_predictor.proofs.Rings as PredictorRings
 use Rattle.mono_input_volume_controller.specs.declared.config.Config.{Config}
+use Rattle.mono_input_volume_controller.specs.declared.profile.Profile.{Profile}
 use Rattle.mono_input_volume_controller.specs.declared.config.Settings.{Settings}
 use Rattle.mono_input_volume_controller.specs.declared.config.Checked.{Checked}
 use Rattle.mono_input_volume_controller.specs.declared.config.Checked.the-variants as Checked
@@ -23,6 +24,8 @@ use Rattle.mono_input_volume_controller.specs.Config.{defaults, settingsFrom, s
 use Rattle.mono_input_volume_controller.specs.Config as Configs
 use Rattle.mono_input_volume_controller.proofs.Checked.{defaults-in-order, good-settings, checked-good}
 use Rattle.input_volume_controller.specs.Controller.{Controller, predictorSettings, switched, freshWith, fresh, madeWith, madeOf, makingWith}
+use Rattle.input_volume_controller.specs.Profile.{makingIn}
+use Rattle.claims.proofs.InProfile.{any-in-profile}
 
 pub record IsFresh (c : Controller) : Type 0 where
   pub predictor : Predictor.Settings
@@ -73,6 +76,10 @@ made-fresh channels config predictor (Number n) (Checked.InOrder s) e f =
     let t = told 1 maxChannels channels n e in
     with-fresh (switched (s .predicts) predictor) n s _ refl (checked-good config s f) (t .least) (t .most)
 
-pub making-fresh : (channels : ℤ) (config : Config) (predictor : ClippingPredictorConfig) → IsFresh (makingWith channels config predictor .controller)
+plain-fresh : (channels : ℤ) (config : Config) (predictor : ClippingPredictorConfig) → IsFresh (makingWith channels config predictor .controller)
 unfolding makingWith
-making-fresh channels config predictor = made-fresh channels config predictor (withinOf 1 maxChannels channels) (settingsOf config) refl refl
+plain-fresh channels config predictor = made-fresh channels config predictor (withinOf 1 maxChannels channels) (settingsOf config) refl refl
+
+-- within any profile
+pub making-fresh : (profile : Profile) (channels : ℤ) (config : Config) (predictor : ClippingPredictorConfig) → IsFresh (makingIn profile channels config predictor .controller)
+making-fresh profile channels config predictor = any-in-profile profile channels config predictor IsFresh (plain-fresh channels config predictor) unmade-fresh

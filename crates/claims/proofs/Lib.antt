@@ -16,6 +16,8 @@ pub mod None
 pub mod Lowest
 pub mod Equal
 pub mod Sound
+pub mod InProfile
+pub mod Had
 pub mod Fresh
 pub mod Made
 pub mod Bounds
@@ -69,6 +71,8 @@ pub mod EachTakesItsOwn
 pub mod LowestIsApplied
 pub mod Controlling
 pub mod ShortFrames
+pub mod Classroom
+pub mod ClassroomNeeded
 pub mod Needed
 pub mod ExampleLines
 pub mod Claims

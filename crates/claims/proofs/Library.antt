@@ -10,14 +10,16 @@ use Rattle.numbers.specs.Said.{outcomeSays}
 use Rattle.numbers.proofs.Said.{numbered}
 use Rattle.clipping_predictor.specs.declared.settings.ClippingPredictorConfig.{ClippingPredictorConfig}
 use Rattle.mono_input_volume_controller.specs.declared.config.Config.{Config}
-use Rattle.input_volume_controller.specs.Controller.{viewOf, Good, makingWith}
+use Rattle.mono_input_volume_controller.specs.declared.profile.Profile.{Profile}
+use Rattle.input_volume_controller.specs.Controller.{viewOf, Good}
+use Rattle.input_volume_controller.specs.Profile.{makingIn}
 use Rattle.input_volume_controller.specs.Reply.{Reply, done}
 use Rattle.input_volume_controller.specs.Calls.{Call, frame, recommendation, initialise, captureSwitch, step, Does}
 use Rattle.input_volume_controller.proofs.Whole.{does-whole}
 use Rattle.agc2.specs.declared.answers.Agc2Controller.{Agc2Controller}
 use Rattle.agc2.specs.Answers.{outcomeNumber}
 use Rattle.agc2.specs.Whole.{wholeOf}
-use Rattle.agc2.specs.Calls.{CreatedWith}
+use Rattle.agc2.specs.Calls.{CreatedIn}
 use Rattle.claims.specs.Run as Runs
 use Rattle.claims.specs.RunsExist.{HasMaking}
 use Rattle.claims.specs.Library.{Numbers, ofFrame, ofRecommendation, inNumbers, LibraryCall, framed, recommended, initialised, switched, Heard, heardOf, LibraryRun, none, next, allInNumbers, RunsAs, MadeAs, LibraryRunsAreRuns}
@@ -68,23 +70,24 @@ accepted-at-zero Outcome.Accepted e = refl
 accepted-at-zero (Outcome.Refused cause) e = absurd (refused-not-zero cause e)
 
 -- what the library's making hands back is what the controller's would
-abbrev pub made-created : (channels : ℤ) (config : Config) (predictor : ClippingPredictorConfig) (c : Agc2Controller) → CreatedWith channels config predictor c → HasMaking channels config predictor
-made-created channels config predictor c made = record {
-  made = record { answer = makingWith channels config predictor .answer; controller = wholeOf c };
+abbrev pub made-created : (profile : Profile) (channels : ℤ) (config : Config) (predictor : ClippingPredictorConfig) (c : Agc2Controller) → CreatedIn profile channels config predictor c
+    → HasMaking profile channels config predictor
+made-created profile channels config predictor c made = record {
+  made = record { answer = makingIn profile channels config predictor .answer; controller = wholeOf c };
   created = record { good = made .becomes .good; answer = refl; view = made .becomes .is };
 }
 
-made-as : (channels : ℤ) (config : Config) (predictor : ClippingPredictorConfig) (c : Agc2Controller) (calls : List Call) (all : List Heard) (e : Agc2Controller) → CreatedWith channels config predictor c
-    → c .refusal ≡ 0 → LibraryRun c calls all e → MadeAs channels config predictor calls all e
-made-as channels config predictor c calls all e made zero run =
-    let m = made-created channels config predictor c made in
+made-as : (profile : Profile) (channels : ℤ) (config : Config) (predictor : ClippingPredictorConfig) (c : Agc2Controller) (calls : List Call) (all : List Heard) (e : Agc2Controller) → CreatedIn profile channels config predictor c
+    → c .refusal ≡ 0 → LibraryRun c calls all e → MadeAs profile channels config predictor calls all e
+made-as profile channels config predictor c calls all e made zero run =
+    let m = made-created profile channels config predictor c made in
     let r = runs-as (made .becomes .good) run in
     record {
       heard = r .heard;
       had = record {
         made = m .made;
         created = m .created;
-        accepted = accepted-at-zero (makingWith channels config predictor .answer) (sym (made .refusal) ∙ zero);
+        accepted = accepted-at-zero (makingIn profile channels config predictor .answer) (sym (made .refusal) ∙ zero);
         run = r .run;
       };
       numbers = r .numbers;

@@ -1,16 +1,16 @@
 -- An accepted making hands back a fresh controller with settings and a predictor that passed their tests, so its volumes are sound. Assumes nothing.
 use mathlib.Core.Path.{_≡_, refl, sym, ap, subst, _∙_}
-use mathlib.Core.Bool.{Bool, true, false, _&&_}
+use mathlib.Core.Bool.{Bool, true, false}
 use Prim.Native.Nat.{ℕ, _≤_}
 use native.Mathlib.Omega.{arith}
 use lib.IntN.{ℤ, pos, negsuc, natAbs}
-use lib.Signed.{leZ}
 use Rattle.numbers.specs.declared.natural.Natural.{Natural}
 use Rattle.numbers.specs.declared.natural.Natural.the-variants.{Number, Outside}
 use Rattle.numbers.specs.declared.refusal.Outcome.the-variants.{Accepted}
 use Rattle.numbers.specs.Natural.{withinOf}
 use Rattle.numbers.proofs.Signs.{clash}
 use Rattle.numbers.proofs.Ranges.{told}
+use Rattle.numbers.proofs.Truths.{both-true}
 use Rattle.clipping_predictor.specs.declared.settings.ClippingPredictorConfig.{ClippingPredictorConfig}
 use Rattle.clipping_predictor.specs.declared.settings.Settings as Predictor
 use Rattle.clipping_predictor.specs.declared.settings.Checked as PredictorCheck
@@ -70,15 +70,19 @@ unfolding makingWith settingsOf
 accepted-making channels config predictor h =
     made-with predictor (withinOf 1 maxChannels channels) (volumesInRange config) (stepInRange config) (waitsInRange config) (targetsInRange config) (thresholdsInRange config) config (settingsFrom config) refl refl h
 
--- a minimum that passes its test is a natural number
-natural : (high x : ℤ) (t u : Bool) → leZ (pos 0) x ≡ t → ((t && leZ x high) && u) ≡ true → x ≡ pos (natAbs x)
-natural high (pos n) t u e h = refl
-natural high (negsuc n) true u e h = clash (sym e)
-natural high (negsuc n) false u e h = clash (sym h)
+-- a number from 0 on is a natural one
+natural : (high x : ℤ) → inRange (pos 0) high x ≡ true → x ≡ pos (natAbs x)
+unfolding inRange
+natural high (pos n) h = refl
+natural high (negsuc n) h = clash (sym h)
 
-minimum-is : (config : Config) → volumesInRange config ≡ true → config .«min_input_volume» ≡ pos (natAbs (config .«min_input_volume»))
-unfolding bothInRange inRange
-minimum-is config h = natural (pos maxInputVolume) (config .«min_input_volume») (leZ (pos 0) (config .«min_input_volume»)) _ refl h
+-- volumes that pass their tests
+volumes-are : (config : Config) → volumesInRange config ≡ true
+    → (config .«min_input_volume» ≡ pos (natAbs (config .«min_input_volume»))) × (config .«clipped_level_min» ≡ pos (natAbs (config .«clipped_level_min»)))
+unfolding bothInRange
+volumes-are config h =
+    let t = both-true _ _ h in
+    (natural (pos maxInputVolume) (config .«min_input_volume») (t .0), natural (pos maxInputVolume) (config .«clipped_level_min») (t .1))
 
 -- so its volumes are sound
 pub made-sound : {v : Natural} {predictor : ClippingPredictorConfig} (config : Config) (c : Controller) → (m : MadeWith v config (settingsFrom config) predictor c) → Sound (settingsFrom config) (c .control)
@@ -95,7 +99,11 @@ minimum-most config c m = both-most 255 (config .«min_input_volume») (config .
 
 pub minimum-kept : {v : Natural} {predictor : ClippingPredictorConfig} (config : Config) (c : Controller) → MadeWith v config (settingsFrom config) predictor c → pos (settingsFrom config .least) ≡ config .«min_input_volume»
 unfolding settingsFrom
-minimum-kept config c m = sym (minimum-is config (m .volumes))
+minimum-kept config c m = sym (volumes-are config (m .volumes) .0)
+
+pub level-kept : {v : Natural} {predictor : ClippingPredictorConfig} (config : Config) (c : Controller) → MadeWith v config (settingsFrom config) predictor c → pos (settingsFrom config .floor) ≡ config .«clipped_level_min»
+unfolding settingsFrom
+level-kept config c m = sym (volumes-are config (m .volumes) .1)
 
 -- ---- with the count that was asked for
 

@@ -1,7 +1,7 @@
 -- Parts of the lead-in that are needed: for each a past that can be told from no past at all. Assumes nothing.
 use mathlib.Core.Path.{_≡_, refl, ap}
 use mathlib.Core.List.{List, [], _∷_, _++_}
-use Prim.Native.Nat.{ℕ}
+use Prim.Native.Nat.{ℕ, _≤_}
 use native.Mathlib.Omega.{arith}
 use lib.Dec.{lit≤}
 use lib.IntN.{pos}
@@ -40,10 +40,10 @@ use Rattle.input_volume_controller.specs.Frame.{analyzeInputAudio}
 use Rattle.input_volume_controller.specs.Recommendation.{recommendInputVolume}
 use Rattle.input_volume_controller.specs.Calls.{Call, frame, recommendation, initialise, Answer, after, answers}
 use Rattle.claims.specs.Past.{isAccepted}
-use Rattle.claims.specs.LeadIn.{all, acceptedBy, acceptedIn, isQuiet, quiet, isCalm, LeadIn}
+use Rattle.claims.specs.LeadIn.{all, acceptedBy, acceptedIn, isQuiet, quiet, isCalm, LeadIn, callsOf}
 use Rattle.claims.specs.TwoPasts.{enough, RatioFromZero}
 use Rattle.claims.specs.Sharp.{waiting}
-use Rattle.claims.specs.Needed.{withoutInitialise, withVolumeZero, withOneZero, withCaptureOff, PartsAreNeeded}
+use Rattle.claims.specs.Needed.{withoutInitialise, withVolumeZero, withOneZero, withCaptureOff, belowZero, PartsAreNeeded}
 use Rattle.claims.proofs.OneSample.{still, clipped}
 
 abbrev settings : Settings
@@ -53,13 +53,21 @@ in-order : settingsOf (waiting 0) ≡ InOrder settings
 unfolding defaults settingsOf ofInt ofBits le
 in-order = refl
 
+wordless : Settings
+wordless = settingsFrom belowZero
+
+wordless-in-order : settingsOf belowZero ≡ InOrder wordless
+unfolding wordless defaults settingsOf ofInt ofBits le
+wordless-in-order = refl
+
 from-zero : RatioFromZero settings
 unfolding defaults settingsFrom ofBits le
 from-zero = tt
 
-lead : LeadIn 1 quiet (enough settings)
-unfolding settingsFrom withinOf numbersOf frameFits all isAccepted acceptedBy acceptedIn isQuiet quiet isCalm ofInt le eq
-lead = record {
+-- settings that 14 frames are enough for
+leadOf : (s : Settings) → enough s ≤ 14 → LeadIn 1 quiet (enough s)
+unfolding withinOf numbersOf frameFits all isAccepted acceptedBy acceptedIn isQuiet quiet isCalm ofInt le eq
+leadOf s fourteen = record {
   body = replicate 14 (still 50);
   afterInitialise = [];
   afterFrame = [];
@@ -71,12 +79,20 @@ lead = record {
   probability = plusZero;
   level = Absent;
   calm = tt;
-  long = lit≤ tt;
+  long = fourteen;
   accepted = tt;
   still = tt;
   positive = tt;
   refused = tt;
 }
+
+lead : LeadIn 1 quiet (enough settings)
+unfolding settingsFrom
+lead = leadOf settings (lit≤ tt)
+
+wordless-lead : LeadIn 1 quiet (enough wordless)
+unfolding wordless settingsFrom
+wordless-lead = leadOf wordless (lit≤ tt)
 
 -- the same of two channels
 stillTwo : ℕ → Call
@@ -119,6 +135,9 @@ storedIn (a ∷ rest) = lengthOf (a .stored)
 after-calls : List Call → List Call → List Answer
 after-calls calls more = answers (after (fresh settings 1) calls) more
 
+after-wordless : List Call → List Call → List Answer
+after-wordless calls more = answers (after (fresh wordless 1) calls) more
+
 after-two : List Call → List Call → List Answer
 after-two calls more = answers (after (fresh settings 2) calls) more
 
@@ -129,6 +148,10 @@ past-clipped = clipped 200 ∷ []
 -- a recommendation of the past has ended the startup, so that a volume of 0 is left alone
 past-started : List Call
 past-started = still 200 ∷ recommendation plusZero Absent ∷ []
+
+-- one frame more, and every other frame is within the wait
+past-still : List Call
+past-still = still 50 ∷ []
 
 past-two : List Call
 past-two = stillTwo 200 ∷ recommendation plusZero Absent ∷ []
@@ -142,14 +165,16 @@ record Shown : Type 0 where
   none-muted : volumeIn (after-two (withOneZero pair) (initialise ∷ [])) ≡ 20
   kept : storedIn (after-calls (past-started ++ withCaptureOff lead) (initialise ∷ [])) ≡ 2
   unkept : storedIn (after-calls (withCaptureOff lead) (initialise ∷ [])) ≡ 1
+  waited : storedIn (after-wordless (past-still ++ callsOf 1 quiet wordless-lead) (initialise ∷ [])) ≡ 1
+  clipping : storedIn (after-wordless (callsOf 1 quiet wordless-lead) (initialise ∷ [])) ≡ 0
 
 computed : Shown
-unfolding volumeIn lengthOf storedIn after-two past-two pair stillTwo after-calls past-clipped past-started lead listed withinOf minus less atMost within magnitudeOf Decibel.levelOf dbfs gain walk frameRecord metricsOver partialMetrics sum mean largest dropBy adaptiveDrop estimateTree pushEach frameFits estimated after answers called aggregateOf countOf clippedIn total mostClipped clippedRatio rmsErrorOf isUsers defaults settingsFrom withAppliedInputVolumes lowestOf eachGiven numbersOf initialize lowerChannels analyzeInputAudio recommendInputVolume ofInt ofBits add mul div lt le
-computed = record { lowered = refl; unlowered = refl; muted = refl; unmuted = refl; one-muted = refl; none-muted = refl; kept = refl; unkept = refl }
+unfolding volumeIn lengthOf storedIn after-two past-two pair stillTwo after-calls past-clipped past-started after-wordless past-still wordless wordless-lead callsOf leadOf lead listed withinOf minus less atMost within magnitudeOf Decibel.levelOf dbfs gain walk frameRecord metricsOver partialMetrics sum mean largest dropBy adaptiveDrop estimateTree pushEach frameFits estimated after answers called aggregateOf countOf clippedIn total mostClipped clippedRatio rmsErrorOf isUsers defaults settingsFrom withAppliedInputVolumes lowestOf eachGiven numbersOf initialize lowerChannels analyzeInputAudio recommendInputVolume ofInt ofBits add mul div lt le
+computed = record { lowered = refl; unlowered = refl; muted = refl; unmuted = refl; one-muted = refl; none-muted = refl; kept = refl; unkept = refl; waited = refl; clipping = refl }
 
 -- THE CLAIM
 pub parts-are-needed : PartsAreNeeded
-unfolding after-calls after-two
+unfolding after-calls after-two after-wordless
 parts-are-needed = record {
   settings = settings;
   made = in-order;
@@ -172,4 +197,11 @@ parts-are-needed = record {
       let e : storedIn (after-calls (past-started ++ withCaptureOff lead) (initialise ∷ [])) ≡ storedIn (after-calls (withCaptureOff lead) (initialise ∷ [])) =
       ap storedIn (alike past-started [] (initialise ∷ [])) in
       omega (arith, e, computed .kept, computed .unkept);
+  wordless = wordless;
+  wordless-made = wordless-in-order;
+  wordless-lead = wordless-lead;
+  word-needed = λ alike.
+      let e : storedIn (after-wordless (past-still ++ callsOf 1 quiet wordless-lead) (initialise ∷ [])) ≡ storedIn (after-wordless (callsOf 1 quiet wordless-lead) (initialise ∷ [])) =
+      ap storedIn (alike past-still [] (initialise ∷ [])) in
+      omega (arith, e, computed .waited, computed .clipping);
 }

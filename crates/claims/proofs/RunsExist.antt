@@ -10,12 +10,14 @@ use Rattle.clipping_predictor.specs.declared.settings.Settings as Predictor
 use Rattle.clipping_predictor.specs.Predictor.{maxChannels}
 use Rattle.clipping_predictor.specs.Settings as Predictors
 use Rattle.mono_input_volume_controller.specs.declared.config.Config.{Config}
+use Rattle.mono_input_volume_controller.specs.declared.profile.Profile.{Profile}
 use Rattle.mono_input_volume_controller.specs.declared.config.Settings.{Settings}
 use Rattle.mono_input_volume_controller.specs.MonoState as Mono
 use Rattle.mono_input_volume_controller.specs.Config as Configs
 use Rattle.input_volume_controller.specs.declared.InputVolumeController.{InputVolumeController}
 use Rattle.mono_input_volume_controller.specs.Mono.{created}
-use Rattle.input_volume_controller.specs.Controller.{viewOf, Good, freshWith, makingWith}
+use Rattle.input_volume_controller.specs.Controller.{viewOf, Good, freshWith}
+use Rattle.input_volume_controller.specs.Profile.{makingIn}
 use Rattle.input_volume_controller.specs.Calls.{Call, Typed, step}
 use Rattle.claims.specs.Run.{none, next}
 use Rattle.claims.specs.Every.{Every}
@@ -53,10 +55,10 @@ fresh-sane p s count k g low high = record {
   };
 }
 
-makings : (channels : ℤ) (config : Config) (predictor : ClippingPredictorConfig) → HasMaking channels config predictor
-makings channels config predictor =
-    let m = makingWith channels config predictor in
-    let f = making-fresh channels config predictor in
+makings : (profile : Profile) (channels : ℤ) (config : Config) (predictor : ClippingPredictorConfig) → HasMaking profile channels config predictor
+makings profile channels config predictor =
+    let m = makingIn profile channels config predictor in
+    let f = making-fresh profile channels config predictor in
     let s = fresh-sane (f .predictor) (f .settings) (f .count) (f .predictor-good) (f .settings-good) (f .low) (f .high) in
     let d = inverse (f .count) (m .controller) (subst (Sane (f .count)) (sym (f .is)) s) in
     record { made = record { answer = m .answer; controller = d .controller }; created = record { good = d .becomes .good; answer = refl; view = d .becomes .is } }

@@ -44,7 +44,11 @@ use Rattle.input_volume_controller.specs.Channels.{called, eachGiven, aggregate
 use Rattle.input_volume_controller.specs.Volumes.{numbersOf, lowestOf}
 use Rattle.input_volume_controller.specs.Limits.{plainLimits}
 use Rattle.input_volume_controller.specs.ControlCalls.{withAppliedInputVolumes, initialize, lowerChannels}
+use Rattle.mono_input_volume_controller.specs.declared.profile.Profile.{Profile}
+use Rattle.mono_input_volume_controller.specs.declared.profile.Profile.the-variants.{Plain, Classroom}
+use Rattle.mono_input_volume_controller.specs.Profile.{classroomConditions, allHold, takes}
 use Rattle.input_volume_controller.specs.Controller.{Controller, basePredictor, switched, freshWith, fresh, Making, makingWith}
+use Rattle.input_volume_controller.specs.Profile.{withinProfile, makingIn}
 use Rattle.input_volume_controller.specs.Frame.{analyzeInputAudio}
 use Rattle.input_volume_controller.specs.Recommendation.{recommendInputVolume}
 use Rattle.input_volume_controller.specs.Calls.{Call, initialise, Answer, after, answers}
@@ -106,11 +110,11 @@ record Apart (new : Controller) (past leadIn : List Call) (last : Call) (one oth
   with-past : shownBy new (past ++ leadIn) last ≡ one
   without : shownBy new leadIn last ≡ other
 
-too-few : (config : Config) (predictor : ClippingPredictorConfig) (new : Controller) (isStill : ℕ → List Float → Bool) (least : ℕ) (l : LeadIn 1 isStill (least - 2)) (past : List Call) (last : Call) (one other : ℕ)
-    → makingWith (pos 1) config predictor ≡ record { answer = Accepted; controller = new } → ThresholdFromZero config → Apart new past (callsOf 1 isStill l) last one other → (one ≡ other → ⊥)
-    → TooFewWith config predictor isStill least
+too-few : (profile : Profile) (config : Config) (predictor : ClippingPredictorConfig) (new : Controller) (isStill : ℕ → List Float → Bool) (least : ℕ) (l : LeadIn 1 isStill (least - 2)) (past : List Call) (last : Call) (one other : ℕ)
+    → makingIn profile (pos 1) config predictor ≡ record { answer = Accepted; controller = new } → ThresholdFromZero config → Apart new past (callsOf 1 isStill l) last one other → (one ≡ other → ⊥)
+    → TooFewWith profile config predictor isStill least
 unfolding shownBy
-too-few config predictor new isStill least l past last one other made ratio apart differ = record {
+too-few profile config predictor new isStill least l past last one other made ratio apart differ = record {
   made = record { accepted = ap (λ (m : Making). m .answer) made; ratio = ratio };
   refuted = λ alike.
       let new-alike : AlikeAfter new (callsOf 1 isStill l) = subst (λ (m : Making). AlikeAfter (m .controller) (callsOf 1 isStill l)) made (alike l) in
@@ -123,21 +127,27 @@ abbrev settings : ℕ → Settings
 settings wait = settingsFrom (waiting wait)
 
 -- which the making takes
-record Takes (wait : ℕ) : Type 0 where
+record Taken (wait : ℕ) : Type 0 where
   in-order : settingsOf (waiting wait) ≡ InOrder (settings wait)
   ratio : ThresholdFromZero (waiting wait)
 
-takes-none : Takes 0
+takes-none : Taken 0
 unfolding defaults settingsOf ofInt ofBits le
 takes-none = record { in-order = refl; ratio = tt }
 
-takes-ten : Takes 10
+takes-ten : Taken 10
 unfolding defaults settingsOf ofInt ofBits le
 takes-ten = record { in-order = refl; ratio = tt }
 
-takes-default : Takes 300
+takes-default : Taken 300
 unfolding defaults settingsOf ofInt ofBits le
 takes-default = record { in-order = refl; ratio = tt }
+
+-- and every profile's takes the default settings
+in-profile : (profile : Profile) → takes profile (waiting 300) ≡ true
+unfolding defaults classroomConditions allHold ofInt ofBits le
+in-profile Plain = refl
+in-profile Classroom = refl
 
 -- ---- the base's predictor
 
@@ -239,24 +249,25 @@ shownIn FixedStepClippingPeakPrediction = computed .fixed
 
 -- ---- the claim
 
-too-few-by-default : (wait : ℕ) → Takes wait → (l : LeadIn 1 quiet (enough (settings wait) - 2)) (last : Call) (one other : ℕ) → Apart (fresh (settings wait) 1) past (callsOf 1 quiet l) last one other → (one ≡ other → ⊥)
-    → TooFewByDefault (waiting wait)
-too-few-by-default wait t l last one other apart differ =
-    too-few (waiting wait) basePredictor _ quiet (enough (settings wait)) l past last one other (taken (waiting wait) basePredictor (settings wait) _ (t .in-order) (base-checked _)) (t .ratio) apart differ
+too-few-by-default : (profile : Profile) (wait : ℕ) → takes profile (waiting wait) ≡ true → Taken wait → (l : LeadIn 1 quiet (enough (settings wait) - 2)) (last : Call) (one other : ℕ) → Apart (fresh (settings wait) 1) past (callsOf 1 quiet l) last one other → (one ≡ other → ⊥)
+    → TooFewByDefault profile (waiting wait)
+too-few-by-default profile wait inside t l last one other apart differ =
+    too-few profile (waiting wait) basePredictor _ quiet (enough (settings wait)) l past last one other
+    (ap (λ (b : Bool). withinProfile b (makingWith (pos 1) (waiting wait) basePredictor)) inside ∙ taken (waiting wait) basePredictor (settings wait) _ (t .in-order) (base-checked _)) (t .ratio) apart differ
 
-too-few-in : (mode : ClippingPredictorMode) (wait : ℕ) → Takes wait → (l : LeadIn 1 (isStill mode) (enoughFor (smallSettings mode) (settings wait) - 2)) (last : Call) (one other : ℕ)
+too-few-in : (mode : ClippingPredictorMode) (wait : ℕ) → Taken wait → (l : LeadIn 1 (isStill mode) (enoughFor (smallSettings mode) (settings wait) - 2)) (last : Call) (one other : ℕ)
     → Apart (newSmall mode wait) smallPast (callsOf 1 (isStill mode) l) last one other → (one ≡ other → ⊥) → TooFewInMode mode (waiting wait)
 unfolding defaults settingsFrom
 too-few-in mode wait t l last one other apart differ =
     let made = taken (waiting wait) (small mode) (settings wait) (smallSettings mode) (t .in-order) (small-checked mode) in
-    subst (λ (m : Making). TooFewWith (waiting wait) (small mode) (quietIn (m .controller) 1) (enoughIn (m .controller))) (sym made)
-    (too-few (waiting wait) (small mode) _ (isStill mode) (enoughFor (smallSettings mode) (settings wait)) l smallPast last one other made (t .ratio) apart differ)
+    subst (λ (m : Making). TooFewWith Plain (waiting wait) (small mode) (quietIn (m .controller) 1) (enoughIn (m .controller))) (sym made)
+    (too-few Plain (waiting wait) (small mode) _ (isStill mode) (enoughFor (smallSettings mode) (settings wait)) l smallPast last one other made (t .ratio) apart differ)
 
 -- THE CLAIM
 pub two-fewer-are-too-few : TwoFewerAreTooFew
 two-fewer-are-too-few = record {
-  with-no-wait = too-few-by-default 0 takes-none twelve initialise 9 10 (computed .filling) (λ e. omega (arith, e));
-  by-default = too-few-by-default 300 takes-default three-hundred-two (clipped 100) 10 0 (computed .waiting) (λ e. omega (arith, e));
+  with-no-wait = too-few-by-default Plain 0 refl takes-none twelve initialise 9 10 (computed .filling) (λ e. omega (arith, e));
+  by-default = λ profile. too-few-by-default profile 300 (in-profile profile) takes-default three-hundred-two (clipped 100) 10 0 (computed .waiting) (λ e. omega (arith, e));
   in-every-mode = λ mode. too-few-in mode 0 takes-none (three mode) initialise 3 4 (shownIn mode .filling) (λ e. omega (arith, e));
   in-every-mode-with-a-wait = λ mode. too-few-in mode 10 takes-ten (nine mode) (clipped 100) 4 0 (shownIn mode .waiting) (λ e. omega (arith, e));
 }

@@ -9,11 +9,13 @@ use lib.Ieee.{Float, nan, binary32, fits}
 use Rattle.clipping_predictor.specs.Predictor.{Predictor}
 use Rattle.clipping_predictor.specs.declared.settings.ClippingPredictorConfig.{ClippingPredictorConfig}
 use Rattle.mono_input_volume_controller.specs.declared.config.Config.{Config}
+use Rattle.mono_input_volume_controller.specs.declared.profile.Profile.{Profile}
 use Rattle.mono_input_volume_controller.specs.declared.speech_level.SpeechLevel.{SpeechLevel}
 use Rattle.input_volume_controller.specs.declared.InputVolumeController.{InputVolumeController}
 use Rattle.input_volume_controller.specs.declared.Applied.{Applied}
 use Rattle.input_volume_controller.specs.declared.Applied.the-variants.{Nothing, Volume}
-use Rattle.input_volume_controller.specs.Controller.{Controller, makingWith}
+use Rattle.input_volume_controller.specs.Controller.{Controller}
+use Rattle.input_volume_controller.specs.Profile.{makingIn}
 use Rattle.input_volume_controller.specs.Reply.{Stepped}
 use Rattle.input_volume_controller.specs.Recommendation.{recommendIf, unlessNone, recommendInputVolume}
 use Rattle.input_volume_controller.specs.Calls.{Call, frame, recommendation, initialise, captureSwitch, step, after, Answer, answerOf, answers, Typed}
@@ -22,9 +24,9 @@ use Rattle.claims.specs.Made.{MadeAndHad}
 use Rattle.claims.specs.Every.{Every}
 use Rattle.claims.specs.Unmarked.{PeakFits}
 use Rattle.claims.specs.ExactRun.{exactStep, exactAfter, exactAnswers, Unmarked, SameAsExact, HeardAsExact, UnmarkedRunIsExact}
-use Rattle.claims.proofs.Run.{runs-are-runs}
 use Rattle.claims.proofs.Every.{every-from, every-replicate}
 use Rattle.claims.proofs.Fresh.{making-fresh}
+use Rattle.claims.proofs.Had.{had-run, had-stands}
 use Rattle.claims.proofs.UnmarkedFrame.{Exactly, frame-exact}
 
 -- ---- one call
@@ -61,9 +63,9 @@ from c (call ∷ calls) f g m =
       state-is = rest .state-is ∙ ap (λ (s : Stepped). exactAfter (s .state) calls) e;
     }
 
-making-fits : (channels : ℤ) (config : Config) (predictor : ClippingPredictorConfig) → Every (Every PeakFits) (makingWith channels config predictor .controller .predictor .rings)
-making-fits channels config predictor =
-    let f = making-fresh channels config predictor in
+making-fits : (profile : Profile) (channels : ℤ) (config : Config) (predictor : ClippingPredictorConfig) → Every (Every PeakFits) (makingIn profile channels config predictor .controller .predictor .rings)
+making-fits profile channels config predictor =
+    let f = making-fresh profile channels config predictor in
     subst (λ (c : Controller). Every (Every PeakFits) (c .predictor .rings)) (sym (f .is)) (every-replicate (Every PeakFits) (f .count) [] tt)
 
 -- ---- the code
@@ -72,19 +74,18 @@ typed : {c : InputVolumeController} {calls : List Call} {heard : List Answer} {e
 typed none = tt
 typed (next h r) = (h .typed, typed r)
 
-in-code : (channels : ℤ) (config : Config) (predictor : ClippingPredictorConfig) (calls : List Call) (heard : List Answer) (c : InputVolumeController) → MadeAndHad channels config predictor calls heard c
-    → Every Unmarked heard → HeardAsExact (makingWith channels config predictor .controller) calls heard c
-in-code channels config predictor calls heard c h m =
-    let new : Controller = makingWith channels config predictor .controller in
-    let r = runs-are-runs (h .made .controller) calls heard c (h .created .good) (h .run) in
-    let said : heard ≡ answers new calls = r .answered ∙ ap (λ (x : Controller). answers x calls) (h .created .view) in
-    let e = from new calls (making-fits channels config predictor) (typed (h .run)) (subst (Every Unmarked) said m) in
-    record { heard-is = said ∙ e .answers-are; view-is = r .view ∙ ap (λ (x : Controller). after x calls) (h .created .view) ∙ e .state-is }
+in-code : (profile : Profile) (channels : ℤ) (config : Config) (predictor : ClippingPredictorConfig) (calls : List Call) (heard : List Answer) (c : InputVolumeController) → MadeAndHad profile channels config predictor calls heard c
+    → Every Unmarked heard → HeardAsExact (makingIn profile channels config predictor .controller) calls heard c
+in-code profile channels config predictor calls heard c h m =
+    let new : Controller = makingIn profile channels config predictor .controller in
+    let said : heard ≡ answers new calls = had-run profile channels config predictor calls heard c h .answered ∙ ap (λ (x : Controller). answers x calls) (h .created .view) in
+    let e = from new calls (making-fits profile channels config predictor) (typed (h .run)) (subst (Every Unmarked) said m) in
+    record { heard-is = said ∙ e .answers-are; view-is = had-stands profile channels config predictor calls heard c h ∙ e .state-is }
 
 -- THE CLAIM
 pub unmarked-run-is-exact : UnmarkedRunIsExact
 unmarked-run-is-exact = record {
   from = from;
-  made = λ channels config predictor calls f m. from (makingWith channels config predictor .controller) calls (making-fits channels config predictor) f m;
+  made = λ profile channels config predictor calls f m. from (makingIn profile channels config predictor .controller) calls (making-fits profile channels config predictor) f m;
   in-code = in-code;
 }

@@ -6,9 +6,11 @@ use Prim.Native.Nat.{ℕ, _<_}
 use lib.IntN.{ℤ}
 use Rattle.clipping_predictor.specs.declared.settings.ClippingPredictorConfig.{ClippingPredictorConfig}
 use Rattle.mono_input_volume_controller.specs.declared.config.Config.{Config}
+use Rattle.mono_input_volume_controller.specs.declared.profile.Profile.{Profile}
 use Rattle.input_volume_controller.specs.declared.InputVolumeController.{InputVolumeController}
 use Rattle.input_volume_controller.specs.declared.Created.{Created}
-use Rattle.input_volume_controller.specs.Controller.{viewOf, CreatedWith}
+use Rattle.input_volume_controller.specs.Controller.{viewOf}
+use Rattle.input_volume_controller.specs.Profile.{CreatedIn}
 use Rattle.input_volume_controller.specs.Calls.{Call, Answer}
 use Rattle.agc2.specs.declared.answers.Agc2Controller.{Agc2Controller}
 use Rattle.agc2.specs.Whole.{wholeOf}
@@ -23,14 +25,15 @@ channelsIn c = c .control .channels .count
 
 -- ---- the code
 
--- what `InputVolumeController::with_predictor` handed back, or `new`, which is that with the base's predictor, is what its contract says, and c is that controller after some calls, of which this was heard; every
--- set accepted so far had equal volumes
+-- what `InputVolumeController::in_profile` handed back, or one of the makings that are it at a profile or with the base's predictor (`new`, `with_predictor`, `classroom`, `classroom_with_predictor`), is what its
+-- contract says, and c is that controller after some calls, of which this was heard; every set accepted so far had equal volumes
 pub record HasPast (c : InputVolumeController) : Type 0 where
+  pub profile : Profile
   pub channels : ℤ
   pub config : Config
   pub predictor : ClippingPredictorConfig
   pub made : Created
-  pub created : CreatedWith channels config predictor made
+  pub created : CreatedIn profile channels config predictor made
   pub calls : List Call
   pub heard : List Answer
   pub run : Run (made .controller) calls heard c
@@ -44,13 +47,14 @@ pub record AsOneInCode : Type 0 where
 
 -- ---- the static library
 
--- the same of `agc2_new_with_predictor_by_value`, of `agc2_new_by_value` and of the exported calls
+-- the same of the exported makings, `agc2_new_by_value`, `agc2_new_with_predictor_by_value`, `agc2_new_classroom_by_value` and `agc2_new_classroom_with_predictor_by_value`, and of the exported calls
 pub record HasLibraryPast (c : Agc2Controller) : Type 0 where
+  pub profile : Profile
   pub channels : ℤ
   pub config : Config
   pub predictor : ClippingPredictorConfig
   pub made : Agc2Controller
-  pub created : Library.CreatedWith channels config predictor made
+  pub created : Library.CreatedIn profile channels config predictor made
   pub calls : List Call
   pub heard : List Heard
   pub run : LibraryRun made calls heard c

@@ -1,7 +1,7 @@
 -- Document 01, "What a call can say no to", as a table: for each call on a controller, and for its making, the causes about its inputs in their order (rising number, but of a frame 20 first: 20, 8, 9 and 18), and
 -- the first that holds. Definitions only.
 use mathlib.Core.Bool.{Bool, true, false, not, _&&_, _||_}
-use mathlib.Core.List.{List, [], _∷_}
+use mathlib.Core.List.{List, [], _∷_, _++_}
 use mathlib.Core.Option.{Option, none, some}
 use Prim.Native.Nat.{ℕ, _*_}
 use lib.Dec.{ltb, eqb}
@@ -11,6 +11,8 @@ use lib.Ieee.{Float, binary32, le, ofInt}
 use lib.ListN.{length}
 use Rattle.clipping_predictor.specs.declared.settings.ClippingPredictorConfig.{ClippingPredictorConfig}
 use Rattle.mono_input_volume_controller.specs.declared.config.Config.{Config}
+use Rattle.mono_input_volume_controller.specs.declared.profile.Profile.{Profile}
+use Rattle.mono_input_volume_controller.specs.declared.profile.Profile.the-variants.{Plain, Classroom}
 use Rattle.input_volume_controller.specs.declared.limits.Limits.{Limits}
 use Rattle.input_volume_controller.specs.Calls.{Call, frame, recommendation, initialise, captureSwitch}
 
@@ -107,6 +109,27 @@ settingsCauses channels config later =
     ∷ record { number = 6; holds = outsideUnit (config .«speech_probability_threshold») || outsideUnit (config .«speech_ratio_threshold») }
     ∷ later
 
--- "It refuses faults of windows, threshold or margin as a predictor's making does, after number 6 and also with the predictor off"
-abbrev pub makingCauses : ℤ → Config → ClippingPredictorConfig → List Cause
-makingCauses channels config predictor = settingsCauses channels config (predictorFaults predictor)
+-- document 02 (xii), of each condition of the classroom its opposite
+abbrev pub outsideClassroom : Config → Bool
+outsideClassroom config =
+    -- "predictor on"
+    not (config .«enable_clipping_predictor»)
+    -- "min_input_volume 20 to 70"
+    || (outside (pos 20) (pos 70) (config .«min_input_volume»)
+    -- "clipped_level_min at least min_input_volume"
+    || (ltZ (config .«clipped_level_min») (config .«min_input_volume»)
+    -- "lower target at most the upper"
+    || (ltZ (config .«target_range_max_dbfs») (config .«target_range_min_dbfs»)
+    -- "both waits at least 100"
+    || ((ltZ (config .«clipped_wait_frames») (pos 100) || ltZ (config .«update_input_volume_wait_frames») (pos 100))
+    -- "clipped-ratio threshold 0 to 1"
+    || outsideUnit (config .«clipped_ratio_threshold»)))))
+
+-- "It refuses with 19 settings that the plain controller takes and the profile doesn't"
+abbrev pub profileFaults : Profile → Config → List Cause
+profileFaults Plain config = []
+profileFaults Classroom config = record { number = 19; holds = outsideClassroom config } ∷ []
+
+-- "It refuses faults of windows, threshold or margin as a predictor's making does, after number 6 and also with the predictor off"; the profile's come after all of them
+abbrev pub makingCauses : Profile → ℤ → Config → ClippingPredictorConfig → List Cause
+makingCauses profile channels config predictor = settingsCauses channels config (predictorFaults predictor ++ profileFaults profile config)

@@ -1,5 +1,5 @@
 -- The auditor's page: what is claimed of the whole product, each claim one named type in a file of its own. A claim speaks of the definitions: `step` and `after` of
--- `input_volume_controller/specs/Calls.antt` say what the calls do, and the contracts in `input_volume_controller/src/lib.rt` say that the functions do just that: `CreatedOf` of the making, `Does`
+-- `input_volume_controller/specs/Calls.antt` say what the calls do, and the contracts in `input_volume_controller/src/lib.rt` say that the functions do just that: `CreatedIn` of the makings, `Does`
 -- of each call. So to believe a claim of the running code, a reader has to read its statement, the definitions that it names, and those contracts; the proofs are checked.
 -- That every call is total, and hands its state back in good order, the contracts say by themselves. Definitions only.
 use Rattle.claims.specs.Run.{RunsAreRuns}
@@ -16,7 +16,7 @@ use Rattle.claims.specs.Marked.{MarkedExactly}
 use Rattle.claims.specs.Unmarked.{UnmarkedIsExact}
 use Rattle.claims.specs.ExactRun.{UnmarkedRunIsExact}
 use Rattle.claims.specs.TwoPasts.{TwoPastsInEveryMode}
-use Rattle.claims.specs.Made.{TwoPasts, TwoPastsByDefault}
+use Rattle.claims.specs.Made.{TwoPasts, TwoPastsInClassroom, TwoPastsByDefault}
 use Rattle.claims.specs.Sharp.{LeadInsExist, AcceptedIsNotRefused, OneFewerIsEnough, TwoFewerAreTooFew}
 use Rattle.claims.specs.Needed.{PartsAreNeeded}
 use Rattle.claims.specs.Starred.{StarredCases}
@@ -28,6 +28,7 @@ use Rattle.claims.specs.DependsEach.{DependsOnEach}
 use Rattle.claims.specs.AsOneInCode.{AsOneInCode, AsOneInLibrary}
 use Rattle.claims.specs.OneVolume.{OneVolume}
 use Rattle.claims.specs.ShortFrames.{ShortFrames}
+use Rattle.claims.specs.Classroom.{ClassroomKeepsMinimum, ClassroomIsNeeded}
 use Rattle.claims.specs.EachTakesItsOwn.{EachTakesItsOwn}
 use Rattle.claims.specs.LowestIsApplied.{LowestIsApplied}
 use Rattle.claims.specs.Controlling.{ControllingIsLowest}
@@ -38,14 +39,14 @@ pub record Claims : Type 0 where
   pub runs : RunsAreRuns
   -- and so is a sequence of the static library's calls, with its answers in numbers
   pub library : LibraryRunsAreRuns
-  -- and none of these is empty: every making, with any predictor, hands something back, and from there every list of calls has a run
+  -- and none of these is empty: every making, within any profile and with any predictor, hands something back, and from there every list of calls has a run
   pub runs-exist : RunsExist
   -- what the contracts leave free (tails, unused places, rings and channels past the count) is heard in no answer of any later call
   pub free : FreeIsUnheard
   -- a record's count of clipped samples is read by metrics alone: controllers equal but for the counts answer every list of calls alike; a count is at most the samples, and a total at most 30,720
   pub counts : CountsAreUnread
   pub counts-within : CountsWithin
-  -- a refused call changes nothing, and its number is the first cause in the table's order that holds; in a making the predictor's causes come last, whether it is on or off
+  -- a refused call changes nothing, and its number is the first cause in the table's order that holds; in a making the predictor's causes come after the settings', whether it is on or off, and the profile's last
   pub refused : RefusedCalls
   -- and so say the calls of the crates below
   pub refused-below : RefusedBelow
@@ -61,13 +62,14 @@ pub record Claims : Type 0 where
   -- definition asks for, and a value at 1 or below counts as 1
   pub unmarked : UnmarkedIsExact
   pub unmarked-run : UnmarkedRunIsExact
-  -- two controllers with equal settings and equal predictors cannot be told apart after the same lead-in, whatever their pasts: for every predictor that a making takes, in the definition and in the code; with
-  -- the base's predictor in document 01's own words; and what both rest on, of fresh controllers with any settings
+  -- two controllers with equal settings and equal predictors cannot be told apart after the same lead-in, whatever their pasts: for every predictor that a making takes, in the definition and in the code; within the
+  -- classroom with no word on the clipped-ratio threshold; with the base's predictor in document 01's own words; and what both rest on, of fresh controllers with any settings
   pub two-pasts : TwoPasts
+  pub two-pasts-in-classroom : TwoPastsInClassroom
   pub two-pasts-by-default : TwoPastsByDefault
   pub two-pasts-in-every-mode : TwoPastsInEveryMode
   -- that claim is not empty, and asks for one frame more than it needs, since the last one counts too: lead-ins exist, one frame fewer does, in every mode, two do not, in any, and no part may be left out,
-  -- nor may one volume of the last frame be 0
+  -- nor may one volume of the last frame be 0, nor the word on the clipped-ratio threshold be left out of the plain claim
   pub lead-ins-exist : LeadInsExist
   pub accepted-is-not-refused : AcceptedIsNotRefused
   pub one-fewer-is-enough : OneFewerIsEnough
@@ -97,5 +99,9 @@ pub record Claims : Type 0 where
   pub one-volume : OneVolume
   -- short frames: the spotter's entry refuses with 18, the state as before, exactly the frames that the larger entry accepts and that exceed its own 2 channels or 160 samples, and else does what the larger entry does
   pub short-frames : ShortFrames
+  -- the classroom: after any calls on a controller that it made, a frame that moves a channel's own volume off its applied volume never moves it below min_input_volume; that this needs the profile, and that the profile
+  -- has settings
+  pub classroom-keeps-minimum : ClassroomKeepsMinimum
+  pub classroom-is-needed : ClassroomIsNeeded
   -- the recommendation is none exactly if no frame was accepted since the latest of making, initialise and recommendation with capture on
   pub none : NoneExactly

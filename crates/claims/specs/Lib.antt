@@ -32,6 +32,7 @@ pub mod ExactFrame
 pub mod Unmarked
 pub mod ExactRun
 pub mod ShortFrames
+pub mod Classroom
 pub mod Needed
 pub mod ExampleLines
 pub mod Claims

@@ -9,6 +9,7 @@ use lib.Ieee.{Float}
 use Rattle.clipping_predictor_level_buffer.specs.declared.level.Level.{Level}
 use Rattle.clipping_predictor.specs.declared.settings.ClippingPredictorConfig.{ClippingPredictorConfig}
 use Rattle.mono_input_volume_controller.specs.declared.config.Config.{Config}
+use Rattle.mono_input_volume_controller.specs.declared.profile.Profile.{Profile}
 use Rattle.mono_input_volume_controller.specs.declared.speech_level.SpeechLevel.{SpeechLevel}
 use Rattle.input_volume_controller.specs.declared.limits.Limits.{Limits}
 use Rattle.input_volume_controller.specs.declared.plain.PlainControl.{PlainControl}
@@ -22,7 +23,7 @@ use Rattle.agc2.specs.declared.answers.Agc2Control.{Agc2Control}
 use Rattle.agc2.specs.declared.answers.Agc2Controller.{Agc2Controller}
 use Rattle.agc2.specs.Answers.{frameNumbers, volumeNumbers}
 use Rattle.agc2.specs.Whole.{wholeOf}
-use Rattle.agc2.specs.Calls.{CreatedWith, AnalyzedEachOf, RecommendedOf}
+use Rattle.agc2.specs.Calls.{CreatedIn, AnalyzedEachOf, RecommendedOf}
 use Rattle.claims.specs.Run.{Run}
 use Rattle.claims.specs.Made.{MadeAndHad}
 
@@ -92,13 +93,14 @@ pub record RunsAs (c : Agc2Controller) (calls : List Call) (all : List Heard) (e
   pub numbers : all ≡ allInNumbers calls heard
 
 -- the same from an accepted making on
-pub record MadeAs (channels : ℤ) (config : Config) (predictor : ClippingPredictorConfig) (calls : List Call) (all : List Heard) (e : Agc2Controller) : Type 0 where
+pub record MadeAs (profile : Profile) (channels : ℤ) (config : Config) (predictor : ClippingPredictorConfig) (calls : List Call) (all : List Heard) (e : Agc2Controller) : Type 0 where
   pub heard : List Answer
-  pub had : MadeAndHad channels config predictor calls heard (wholeOf e)
+  pub had : MadeAndHad profile channels config predictor calls heard (wholeOf e)
   pub numbers : all ≡ allInNumbers calls heard
 
--- THE CLAIM; `CreatedWith` is what the contract of `agc2_new_with_predictor_by_value` says and, at the base's predictor, that of `agc2_new_by_value`; 0 is their word for an accepted making
+-- THE CLAIM; `CreatedIn` is what the contract of `agc2_new_classroom_with_predictor_by_value` says and, at the plain profile, that of `agc2_new_with_predictor_by_value`; at the base's predictor they are those of
+-- `agc2_new_classroom_by_value` and `agc2_new_by_value`; 0 is their word for an accepted making
 pub record LibraryRunsAreRuns : Type 0 where
   pub runs : (c : Agc2Controller) (calls : List Call) (all : List Heard) (e : Agc2Controller) → Good (wholeOf c) → LibraryRun c calls all e → RunsAs c calls all e
-  pub made : (channels : ℤ) (config : Config) (predictor : ClippingPredictorConfig) (c : Agc2Controller) (calls : List Call) (all : List Heard) (e : Agc2Controller)
-      → CreatedWith channels config predictor c → c .refusal ≡ 0 → LibraryRun c calls all e → MadeAs channels config predictor calls all e
+  pub made : (profile : Profile) (channels : ℤ) (config : Config) (predictor : ClippingPredictorConfig) (c : Agc2Controller) (calls : List Call) (all : List Heard) (e : Agc2Controller)
+      → CreatedIn profile channels config predictor c → c .refusal ≡ 0 → LibraryRun c calls all e → MadeAs profile channels config predictor calls all e

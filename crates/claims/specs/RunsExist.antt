@@ -4,9 +4,11 @@ use mathlib.Core.List.{List}
 use lib.IntN.{ℤ}
 use Rattle.clipping_predictor.specs.declared.settings.ClippingPredictorConfig.{ClippingPredictorConfig}
 use Rattle.mono_input_volume_controller.specs.declared.config.Config.{Config}
+use Rattle.mono_input_volume_controller.specs.declared.profile.Profile.{Profile}
 use Rattle.input_volume_controller.specs.declared.InputVolumeController.{InputVolumeController}
 use Rattle.input_volume_controller.specs.declared.Created.{Created}
-use Rattle.input_volume_controller.specs.Controller.{Good, CreatedWith}
+use Rattle.input_volume_controller.specs.Controller.{Good}
+use Rattle.input_volume_controller.specs.Profile.{CreatedIn}
 use Rattle.input_volume_controller.specs.Calls.{Call, Answer, Typed}
 use Rattle.claims.specs.Run.{Run}
 use Rattle.claims.specs.Every.{Every}
@@ -18,11 +20,11 @@ pub record HasRun (c : InputVolumeController) (calls : List Call) : Type 0 where
   pub run : Run c calls heard last
 
 -- what a making hands back
-pub record HasMaking (channels : ℤ) (config : Config) (predictor : ClippingPredictorConfig) : Type 0 where
+pub record HasMaking (profile : Profile) (channels : ℤ) (config : Config) (predictor : ClippingPredictorConfig) : Type 0 where
   pub made : Created
-  pub created : CreatedWith channels config predictor made
+  pub created : CreatedIn profile channels config predictor made
 
 -- THE CLAIM
 pub record RunsExist : Type 0 where
-  pub makings : (channels : ℤ) (config : Config) (predictor : ClippingPredictorConfig) → HasMaking channels config predictor
+  pub makings : (profile : Profile) (channels : ℤ) (config : Config) (predictor : ClippingPredictorConfig) → HasMaking profile channels config predictor
   pub runs : (c : InputVolumeController) (calls : List Call) → Good c → Every Typed calls → HasRun c calls

@@ -14,10 +14,13 @@ use Rattle.clipping_predictor.specs.declared.settings.Settings as Predictor
 use Rattle.clipping_predictor.specs.Settings.{configOf}
 use Rattle.clipping_predictor.specs.Settings as Predictors
 use Rattle.mono_input_volume_controller.specs.declared.config.Config.{Config}
+use Rattle.mono_input_volume_controller.specs.declared.profile.Profile.{Profile}
+use Rattle.mono_input_volume_controller.specs.declared.profile.Profile.the-variants.{Plain}
 use Rattle.mono_input_volume_controller.specs.declared.config.Settings.{Settings}
 use Rattle.mono_input_volume_controller.specs.Config.{defaults, settingsFrom}
 use Rattle.input_volume_controller.specs.declared.limits.Limits.{Limits}
 use Rattle.input_volume_controller.specs.Controller.{Controller, basePredictor, freshWith, fresh, makingWith}
+use Rattle.input_volume_controller.specs.Profile.{makingIn}
 use Rattle.input_volume_controller.specs.Reply.{Reply, mark, refusal, volume, none, done}
 use Rattle.input_volume_controller.specs.Calls.{Call, frame, recommendation, initialise, captureSwitch, step}
 use Rattle.claims.specs.Every.{Every}
@@ -72,14 +75,14 @@ pub record OneFewerIsEnough : Type 0 where
   pub in-every-mode : (p : Predictor.Settings) (s : Settings) (channels : ℕ) → Predictors.Good p → RatioFromZero s
       → (l : LeadIn channels (quietFor p channels) (enoughFor p s - 1)) → AlikeAfter (freshWith p s channels) (callsOf channels (quietFor p channels) l)
 
--- the default settings with another clipping wait
-abbrev pub waiting : ℕ → Config
-waiting wait = record {
+-- the default settings with another clipped_level_min, clipped-ratio threshold and clipping wait
+abbrev pub defaultsBut : ℤ → Float → ℤ → Config
+defaultsBut level ratio wait = record {
   «min_input_volume» = defaults .«min_input_volume»;
-  «clipped_level_min» = defaults .«clipped_level_min»;
+  «clipped_level_min» = level;
   «clipped_level_step» = defaults .«clipped_level_step»;
-  «clipped_ratio_threshold» = defaults .«clipped_ratio_threshold»;
-  «clipped_wait_frames» = pos wait;
+  «clipped_ratio_threshold» = ratio;
+  «clipped_wait_frames» = wait;
   «enable_clipping_predictor» = defaults .«enable_clipping_predictor»;
   «target_range_max_dbfs» = defaults .«target_range_max_dbfs»;
   «target_range_min_dbfs» = defaults .«target_range_min_dbfs»;
@@ -88,25 +91,29 @@ waiting wait = record {
   «speech_ratio_threshold» = defaults .«speech_ratio_threshold»;
 }
 
--- with these settings and this predictor, which the making takes, two accepted frames fewer do not do: the same claim is false
-pub record TooFewWith (config : Config) (predictor : ClippingPredictorConfig) (isStill : ℕ → List Float → Bool) (least : ℕ) : Type 0 where
-  pub made : MayBeCompared 1 config predictor
-  pub refuted : ((l : LeadIn 1 isStill (least - 2)) → AlikeAfter (makingWith (pos 1) config predictor .controller) (callsOf 1 isStill l)) → ⊥
+-- with another clipping wait
+abbrev pub waiting : ℕ → Config
+waiting wait = defaultsBut (defaults .«clipped_level_min») (defaults .«clipped_ratio_threshold») (pos wait)
+
+-- with these settings and this predictor, which the making within the profile takes, two accepted frames fewer do not do: the same claim is false
+pub record TooFewWith (profile : Profile) (config : Config) (predictor : ClippingPredictorConfig) (isStill : ℕ → List Float → Bool) (least : ℕ) : Type 0 where
+  pub made : MayBeCompared profile 1 config predictor
+  pub refuted : ((l : LeadIn 1 isStill (least - 2)) → AlikeAfter (makingIn profile (pos 1) config predictor .controller) (callsOf 1 isStill l)) → ⊥
 
 -- with the base's predictor
-abbrev pub TooFewByDefault : Config → Type 0
-TooFewByDefault config = TooFewWith config basePredictor quiet (enough (settingsFrom config))
+abbrev pub TooFewByDefault : Profile → Config → Type 0
+TooFewByDefault profile config = TooFewWith profile config basePredictor quiet (enough (settingsFrom config))
 
 -- a small predictor of any mode
 abbrev pub small : ClippingPredictorMode → ClippingPredictorConfig
 small mode = configOf true mode (pos 2) (pos 3) (pos 1) (negsuc 999) (pos 1000)
 
 abbrev pub TooFewInMode : ClippingPredictorMode → Config → Type 0
-TooFewInMode mode config = let new = makingWith (pos 1) config (small mode) .controller in TooFewWith config (small mode) (quietIn new 1) (enoughIn new)
+TooFewInMode mode config = let new = makingWith (pos 1) config (small mode) .controller in TooFewWith Plain config (small mode) (quietIn new 1) (enoughIn new)
 
--- both where the windows' number is the larger (14; 5), and where the clipping wait's is (304; 11)
+-- both where the windows' number is the larger (14; 5), and where the clipping wait's is (304; 11); 304 within the classroom too
 pub record TwoFewerAreTooFew : Type 0 where
-  pub with-no-wait : TooFewByDefault (waiting 0)
-  pub by-default : TooFewByDefault (waiting 300)
+  pub with-no-wait : TooFewByDefault Plain (waiting 0)
+  pub by-default : (profile : Profile) → TooFewByDefault profile (waiting 300)
   pub in-every-mode : (mode : ClippingPredictorMode) → TooFewInMode mode (waiting 0)
   pub in-every-mode-with-a-wait : (mode : ClippingPredictorMode) → TooFewInMode mode (waiting 10)

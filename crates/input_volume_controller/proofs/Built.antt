@@ -35,7 +35,7 @@ pub base-checked : (on : Bool) → settingsOf (switched on basePredictor) ≡ Ch
 unfolding settingsOf PredictorSettings.checked PredictorSettings.levelsInRange atLeastOf
 base-checked on = refl
 
-within-count : (n : ℕ) → 1 ≤ n → n ≤ maxChannels → withinOf 1 maxChannels (pos n) ≡ Number n
+pub within-count : (n : ℕ) → 1 ≤ n → n ≤ maxChannels → withinOf 1 maxChannels (pos n) ≡ Number n
 unfolding withinOf
 within-count n h k = rw (le-leb 1 n h, le-leb n maxChannels k)
 

@@ -3,6 +3,7 @@ pub mod SetNumbers
 pub mod Sets
 pub mod Volumes
 pub mod Built
+pub mod Profiles
 pub mod Whole
 pub mod TwoDrops
 pub mod Marks

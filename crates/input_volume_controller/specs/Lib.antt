@@ -6,6 +6,7 @@ pub mod Channels
 pub mod Control
 pub mod ControlCalls
 pub mod Controller
+pub mod Profile
 pub mod Reply
 pub mod Differ
 pub mod Frame

@@ -6,7 +6,8 @@ ghost use lib.IntN.{pos};
 ghost use lib.ListN.{getD};
 ghost use Rattle.clipping_predictor_level_buffer.specs.Ring.{storedSays, storedAt};
 ghost use Rattle.clipping_predictor_level_buffer.specs.Metrics.{metricsSays};
-ghost use Rattle.input_volume_controller.specs.Controller.{viewOf, Good, CreatedWith, CreatedOf};
+ghost use Rattle.input_volume_controller.specs.Controller.{viewOf, Good, basePredictor, CreatedWith, CreatedOf};
+ghost use Rattle.input_volume_controller.specs.Profile.{CreatedIn};
 ghost use Rattle.input_volume_controller.specs.Reply.{done, recommendationSays};
 ghost use Rattle.input_volume_controller.specs.Limits.{plainLimits, spotterLimits};
 ghost use Rattle.input_volume_controller.specs.Calls.{recommendation, initialise, captureSwitch, Does, AnalyzedOf, AnalyzedEachOf, AnalyzedSetOf};
@@ -27,6 +28,7 @@ use clipping_predictor::settings::ClippingPredictorConfig;
 use clipping_predictor_level_buffer::Metrics;
 use clipping_predictor_level_buffer::Stored;
 use mono_input_volume_controller::config::Config;
+use mono_input_volume_controller::profile::Profile;
 use mono_input_volume_controller::speech_level::SpeechLevel;
 use numbers::refusal::Outcome;
 use numbers::refusal::Refusal;
@@ -85,10 +87,11 @@ impl InputVolumeController {
     pub fn new(num_capture_channels: i32, config: Config) -> Created
         ensures { λ r. ⌜ CreatedOf «num_capture_channels» config r ⌝ }
     {
-        InputVolumeController::with_predictor(
+        InputVolumeController::in_profile(
+            Profile::Plain,
             num_capture_channels,
             config,
-            making::default_predictor_config(),
+            default_predictor_config(),
         )
     }
 
@@ -100,7 +103,47 @@ impl InputVolumeController {
     ) -> Created
         ensures { λ r. ⌜ CreatedWith «num_capture_channels» config predictor r ⌝ }
     {
-        let decided = making::decide(num_capture_channels, config, predictor);
+        InputVolumeController::in_profile(Profile::Plain, num_capture_channels, config, predictor)
+    }
+
+    // For group teaching, with the base's predictor. Tests causes 1 to 6, and then 19.
+    pub fn classroom(num_capture_channels: i32, config: Config) -> Created
+        ensures { λ r. ⌜ CreatedIn Profile.Classroom «num_capture_channels» config basePredictor r ⌝ }
+    {
+        InputVolumeController::in_profile(
+            Profile::Classroom,
+            num_capture_channels,
+            config,
+            default_predictor_config(),
+        )
+    }
+
+    // For group teaching, with a predictor of any mode. Tests causes 1 to 6, 7, 14 and 15, and then 19.
+    pub fn classroom_with_predictor(
+        num_capture_channels: i32,
+        config: Config,
+        predictor: ClippingPredictorConfig,
+    ) -> Created
+        ensures { λ r. ⌜ CreatedIn Profile.Classroom «num_capture_channels» config predictor r ⌝ }
+    {
+        InputVolumeController::in_profile(
+            Profile::Classroom,
+            num_capture_channels,
+            config,
+            predictor,
+        )
+    }
+
+    // Within a profile, with a predictor of any mode. Every making comes here.
+    pub fn in_profile(
+        profile: Profile,
+        num_capture_channels: i32,
+        config: Config,
+        predictor: ClippingPredictorConfig,
+    ) -> Created
+        ensures { λ r. ⌜ CreatedIn profile «num_capture_channels» config predictor r ⌝ }
+    {
+        let decided = making::decide_in(profile, num_capture_channels, config, predictor);
         let answer = decided.answer;
         let channels = decided.channels;
         let settings = decided.settings;

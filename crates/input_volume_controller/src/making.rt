@@ -5,6 +5,7 @@ ghost use Rattle.clipping_predictor.specs.Predictor.{maxChannels};
 ghost use Rattle.clipping_predictor.specs.Settings.{settingsOf as predictorSettingsOf};
 ghost use Rattle.mono_input_volume_controller.specs.Config.{Good as GoodSettings};
 ghost use Rattle.input_volume_controller.specs.Controller.{basePredictor, switched, unmade, madeWith, makingWith, DecidedAs};
+ghost use Rattle.input_volume_controller.specs.Profile.{DecidedWithin, makingIn};
 use clipping_predictor::MAX_CHANNELS;
 use clipping_predictor::settings::Checked as PredictorChecked;
 use clipping_predictor::settings::ClippingPredictorConfig;
@@ -12,6 +13,8 @@ use clipping_predictor::settings::ClippingPredictorMode;
 use mono_input_volume_controller::config::Checked;
 use mono_input_volume_controller::config::Config;
 use mono_input_volume_controller::config::Settings;
+use mono_input_volume_controller::profile::Profile;
+use mono_input_volume_controller::profile::takes;
 use numbers::natural::Natural;
 use numbers::refusal::Outcome;
 use numbers::refusal::Refusal;
@@ -80,12 +83,8 @@ fn with_settings(channels: usize, s: Settings, predictor: ClippingPredictorConfi
     }
 }
 
-// Tests cause 1, then 2 to 6, and then 7, 14 and 15.
-pub fn decide(
-    num_capture_channels: i32,
-    config: Config,
-    predictor: ClippingPredictorConfig,
-) -> Decided
+// For everybody: tests cause 1, then 2 to 6, and then 7, 14 and 15.
+fn decide(num_capture_channels: i32, config: Config, predictor: ClippingPredictorConfig) -> Decided
     ensures { λ r. ⌜ DecidedAs (makingWith «num_capture_channels» config predictor) r ⌝ }
 {
     let count = numbers::natural::within(1, MAX_CHANNELS, num_capture_channels);
@@ -97,4 +96,31 @@ pub fn decide(
         Checked::Refused(cause) => refused(cause),
         Checked::InOrder(settings) => with_settings(channels, settings, predictor),
     }
+}
+
+// Cause 19: settings that the plain controller takes, and the profile does not.
+fn within_profile(taken: bool, plain: Decided) -> Decided
+    ensures { λ r. ⌜ DecidedWithin taken plain r ⌝ }
+{
+    if taken {
+        return plain;
+    }
+    let answer = plain.answer;
+    match answer {
+        Outcome::Refused(_) => plain,
+        Outcome::Accepted => refused(Refusal::ClassroomProfile),
+    }
+}
+
+// All refusals of the plain controller come first, and then the profile's.
+pub fn decide_in(
+    profile: Profile,
+    num_capture_channels: i32,
+    config: Config,
+    predictor: ClippingPredictorConfig,
+) -> Decided
+    ensures { λ r. ⌜ DecidedAs (makingIn profile «num_capture_channels» config predictor) r ⌝ }
+{
+    let plain = decide(num_capture_channels, config, predictor);
+    within_profile(takes(profile, config), plain)
 }

@@ -4,4 +4,5 @@ pub mod Mono
 pub mod SameVolumes
 pub mod MonoProcess
 pub mod Config
+pub mod Profile
 pub mod SpeechError

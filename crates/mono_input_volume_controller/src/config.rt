@@ -58,7 +58,7 @@ pub fn default_config() -> Config
     }
 }
 
-fn in_range(low: i32, high: i32, x: i32) -> bool
+pub(crate) fn in_range(low: i32, high: i32, x: i32) -> bool
     ensures { λ r. ⌜ r ≡ inRange low high x ⌝ }
 {
     if x < low {
@@ -77,7 +77,7 @@ pub fn both_in_range(low: i32, high: i32, x: i32, y: i32) -> bool
 }
 
 // From 0 to 1. A not-a-number is not.
-fn in_unit(x: f32) -> bool
+pub(crate) fn in_unit(x: f32) -> bool
     ensures { λ r. ⌜ r ≡ inUnit x ⌝ }
 {
     if 0.0 <= x {

@@ -5,7 +5,7 @@ use Prim.Native.Nat.{ℕ, _≤_, _<_}
 use native.Mathlib.Omega.{arith}
 use lib.ListN.{getD}
 use Rattle.numbers.specs.declared.refusal.Refusal.{Refusal}
-use Rattle.numbers.specs.declared.refusal.Refusal.the-variants.{ChannelCount, MinimumVolume, ClippedLevelStep, WaitFrames, TargetRange, SpeechThreshold, PredictorWindows, InputVolume, FrameSize, EstimateRange, RingRange, FrameLine, PredictorCapacity, PredictorLevels, FrameLimits, VolumeCount}
+use Rattle.numbers.specs.declared.refusal.Refusal.the-variants.{ChannelCount, MinimumVolume, ClippedLevelStep, WaitFrames, TargetRange, SpeechThreshold, PredictorWindows, InputVolume, FrameSize, EstimateRange, RingRange, FrameLine, PredictorCapacity, PredictorLevels, FrameLimits, ClassroomProfile, VolumeCount}
 use Rattle.numbers.specs.declared.refusal.Outcome.{Outcome}
 use Rattle.numbers.specs.declared.refusal.Outcome.the-variants.{Accepted, Refused}
 use Rattle.numbers.specs.Refusal.{numberOf}
@@ -14,12 +14,12 @@ use Rattle.numbers.specs.Said.{Said, accepted, refused, outcomeSays}
 pub fixed : {A B : Type 0} (says : A → B) (back : B → A) → ((a : A) → back (says a) ≡ a) → (a b : A) → says a ≡ says b → a ≡ b
 fixed says back same a b e = sym (same a) ∙ ap back e ∙ same b
 
--- the cause of a number; there is none of 0, of 13 and of 16, 17 and 19
+-- the cause of a number; there is none of 0, of 13 and of 16 and 17
 abbrev pub causeOf : ℕ → Refusal
 causeOf n =
     getD
     (FrameLine ∷ ChannelCount ∷ MinimumVolume ∷ ClippedLevelStep ∷ WaitFrames ∷ TargetRange ∷ SpeechThreshold ∷ PredictorWindows ∷ InputVolume ∷ FrameSize ∷ EstimateRange ∷ RingRange ∷ FrameLine ∷ FrameLine ∷ PredictorCapacity ∷ PredictorLevels
-    ∷ FrameLine ∷ FrameLine ∷ FrameLimits ∷ FrameLine ∷ VolumeCount ∷ [])
+    ∷ FrameLine ∷ FrameLine ∷ FrameLimits ∷ ClassroomProfile ∷ VolumeCount ∷ [])
     n FrameLine
 
 pub cause-back : (cause : Refusal) → causeOf (numberOf cause) ≡ cause
@@ -38,6 +38,7 @@ cause-back FrameLine = refl
 cause-back PredictorCapacity = refl
 cause-back PredictorLevels = refl
 cause-back FrameLimits = refl
+cause-back ClassroomProfile = refl
 cause-back VolumeCount = refl
 
 -- a number has one digit or two, and is not 0: no refusal is told as an acceptance
@@ -61,6 +62,7 @@ numbered FrameLine = record { least = omega arith; two-digits = omega arith }
 numbered PredictorCapacity = record { least = omega arith; two-digits = omega arith }
 numbered PredictorLevels = record { least = omega arith; two-digits = omega arith }
 numbered FrameLimits = record { least = omega arith; two-digits = omega arith }
+numbered ClassroomProfile = record { least = omega arith; two-digits = omega arith }
 numbered VolumeCount = record { least = omega arith; two-digits = omega arith }
 
 -- the way back, for an enum with a case of values and one of refusals

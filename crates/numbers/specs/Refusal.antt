@@ -1,7 +1,7 @@
 -- Document 01, "What a call can say no to", with what document 02 adds: the number of each cause. Definitions only.
 use Prim.Native.Nat.{ℕ}
 use Rattle.numbers.specs.declared.refusal.Refusal.{Refusal}
-use Rattle.numbers.specs.declared.refusal.Refusal.the-variants.{ChannelCount, MinimumVolume, ClippedLevelStep, WaitFrames, TargetRange, SpeechThreshold, PredictorWindows, InputVolume, FrameSize, EstimateRange, RingRange, FrameLine, PredictorCapacity, PredictorLevels, FrameLimits, VolumeCount}
+use Rattle.numbers.specs.declared.refusal.Refusal.the-variants.{ChannelCount, MinimumVolume, ClippedLevelStep, WaitFrames, TargetRange, SpeechThreshold, PredictorWindows, InputVolume, FrameSize, EstimateRange, RingRange, FrameLine, PredictorCapacity, PredictorLevels, FrameLimits, ClassroomProfile, VolumeCount}
 
 abbrev pub numberOf : Refusal → ℕ
 -- channel count not 1 to 8
@@ -34,5 +34,7 @@ numberOf PredictorCapacity = 14
 numberOf PredictorLevels = 15
 -- document 02 (viii): "a frame through the spotter's entry with more channels or samples per channel than its own limits"
 numberOf FrameLimits = 18
+-- document 02 (xii): "settings that the plain controller takes and the profile doesn't"
+numberOf ClassroomProfile = 19
 -- document 02 (xiv): "a set whose length isn't the channel count"
 numberOf VolumeCount = 20

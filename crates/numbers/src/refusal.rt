@@ -18,6 +18,7 @@ pub enum Refusal {
     PredictorCapacity,
     PredictorLevels,
     FrameLimits,
+    ClassroomProfile,
     VolumeCount,
 }
 
@@ -46,6 +47,7 @@ pub fn number(cause: Refusal) -> u32
         Refusal::PredictorCapacity => 14,
         Refusal::PredictorLevels => 15,
         Refusal::FrameLimits => 18,
+        Refusal::ClassroomProfile => 19,
         Refusal::VolumeCount => 20,
     }
 }

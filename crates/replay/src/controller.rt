@@ -219,6 +219,11 @@ pub fn answer(letter: u8, c: InputVolumeController, s: &[u8], full: bool) -> Inp
             full,
         ),
         b'K' => made(c, with_predictor(s), full),
+        b'O' => made(
+            c,
+            InputVolumeController::classroom(text::number(s, 0), config(s)),
+            full,
+        ),
         b'A' => framed(c, false, s, 1, full),
         b'B' => framed(c, false, s, 2, full),
         b'W' => framed(c, true, s, 2, full),

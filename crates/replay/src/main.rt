@@ -12,6 +12,7 @@
 //     E channel level step least most   an estimate, with an `n` behind it where it is near
 //     N channels and the eleven settings   a controller: made
 //     K the same, then mode window reference delay threshold margin   a controller with a predictor of any mode: made
+//     O the fields of N                 a controller within the classroom profile: made
 //     A volume floats   B volume samples floats   a frame; a frame that says how many samples a channel has
 //     W volume samples floats           the same as B, through the word spotter's entry
 //     R probability level   I   C switch   D   a recommendation; initialise; the capture switch; all records

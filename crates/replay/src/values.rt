@@ -65,7 +65,8 @@ pub fn answer(letter: u8, s: &[u8]) {
         b'w' | b'a' | b'd' | b'h' | b'L' => of_float(letter, text::float(s, 0)),
         b'V' => shown(letter, s),
         b'G' | b'g' | b'z' | b'm' | b'P' | b'F' | b'X' | b'E' => print::text(b""),
-        b'N' | b'K' | b'A' | b'B' | b'W' | b'R' | b'I' | b'C' | b'D' | b'#' | 0 => print::text(b""),
+        b'N' | b'K' | b'O' | b'A' | b'B' | b'W' | b'R' | b'I' | b'C' | b'D' | b'#' | 0 =>
+            print::text(b""),
         _ => print::text(b"unknown"),
     }
 }
