@@ -14,7 +14,8 @@
  * the last answers: a frame, refused or not, writes `refusal` and `near` and sets `present` and `volume` to 0; a recommendation writes `present` and `volume`.
  *
  * No argument is out of bounds but two kinds: a pointer must be valid, with as many samples or volumes behind it as the count says, none of them within the controller; and a controller
- * must be one that agc2_new or agc2_new_with_predictor accepted and that nobody else wrote to. A controller has no pointer in it and may be copied and moved; two threads must not use one at once.
+ * must be one that a making (agc2_new, agc2_new_with_predictor, agc2_new_classroom, agc2_new_classroom_with_predictor) accepted and that nobody else wrote to. A controller has no pointer in it and
+ * may be copied and moved; two threads must not use one at once.
  * The proofs take floats to work as they do by default: rounded to nearest, with no subnormal number flushed to zero.
  *
  * The stack that a call needs, as measured with clang and gcc at -O0 and -O2: 22.7 KB for a frame, 14.2 KB for a making, agc2_stored_record and agc2_compute_partial_metrics, 1.9 KB for any other
@@ -31,11 +32,14 @@ extern "C" {
 
 enum { AGC2_MAX_CHANNELS = 8, AGC2_MAX_SAMPLES_PER_CHANNEL = 480 };
 
+/* For whom a controller is made: everybody, or group teaching, as which any number above 1 is taken too. */
+enum { AGC2_PLAIN = 0, AGC2_CLASSROOM = 1 };
+
 /* What a frame through the word spotter's entry has at most. */
 enum { AGC2_SPOTTER_MAX_CHANNELS = 2, AGC2_SPOTTER_MAX_SAMPLES_PER_CHANNEL = 160 };
 
-/* The refusals of these calls: agc2_new has 1 to 6, agc2_new_with_predictor 7, 14 and 15 besides, agc2_analyze_input_audio 8 and 9, agc2_analyze_input_audio_each 20 besides, the spotter's two 18
- * besides, agc2_compute_partial_metrics 11. */
+/* The refusals of these calls: agc2_new has 1 to 6, agc2_new_with_predictor 7, 14 and 15 besides, each of these two for a classroom 19 besides, agc2_analyze_input_audio 8 and 9,
+ * agc2_analyze_input_audio_each 20 besides, the spotter's two 18 besides, agc2_compute_partial_metrics 11. */
 enum {
     AGC2_ACCEPTED = 0,
     AGC2_CHANNEL_COUNT = 1,
@@ -51,6 +55,7 @@ enum {
     AGC2_PREDICTOR_CAPACITY = 14,
     AGC2_PREDICTOR_LEVELS = 15,
     AGC2_FRAME_LIMITS = 18,
+    AGC2_CLASSROOM_PROFILE = 19,
     AGC2_VOLUME_COUNT = 20
 };
 
@@ -76,8 +81,8 @@ enum {
     AGC2_FIXED_STEP_CLIPPING_PEAK_PREDICTION = 2
 };
 
-/* A predictor's settings, any bits; agc2_default_predictor_config has those that agc2_new takes. A mode above 2 is taken as 2. Threshold and margin are whole thousandths of a dB, where the
- * original has floats in dB. There is no switch: that is enable_clipping_predictor of agc2_config. */
+/* A predictor's settings, any bits; agc2_default_predictor_config has those that agc2_new and agc2_new_classroom take. A mode above 2 is taken as 2. Threshold and margin are whole thousandths of a dB,
+ * where the original has floats in dB. There is no switch: that is enable_clipping_predictor of agc2_config. */
 typedef struct agc2_predictor_config {
     uint32_t mode;
     int32_t window_length;
@@ -153,6 +158,7 @@ agc2_layout_of agc2_layout(void);
 /* Beside the number of a refusal stands a working controller of one channel with the default settings. */
 agc2_controller agc2_new_by_value(int32_t num_capture_channels, agc2_config config);
 agc2_controller agc2_new_with_predictor_by_value(int32_t num_capture_channels, agc2_config config, agc2_predictor_config predictor);
+agc2_controller agc2_new_in_profile_by_value(uint32_t profile, int32_t num_capture_channels, agc2_config config, agc2_predictor_config predictor);
 agc2_control_state agc2_initialize_by_value(agc2_control_state control);
 agc2_control_state agc2_handle_capture_output_used_change_by_value(agc2_control_state control, uint32_t capture_output_used);
 void agc2_analyze_input_audio_into(agc2_controller *controller, int32_t applied_input_volume, size_t samples_per_channel, const float *samples, size_t count);
@@ -164,6 +170,15 @@ int32_t agc2_recommended_input_volume_by_value(agc2_control_state control);
 agc2_record agc2_stored_record_by_value(agc2_controller controller, size_t channel, size_t i);
 agc2_metrics agc2_compute_partial_metrics_by_value(agc2_controller controller, size_t channel, int32_t delay, int32_t num_items);
 
+/* What was made within a profile is handed out, if it was accepted. */
+static inline uint32_t agc2_new_in_profile(agc2_controller *controller, uint32_t profile, int32_t num_capture_channels, agc2_config config, agc2_predictor_config predictor) {
+    agc2_controller made = agc2_new_in_profile_by_value(profile, num_capture_channels, config, predictor);
+    if (made.refusal == AGC2_ACCEPTED) {
+        *controller = made;
+    }
+    return made.refusal;
+}
+
 /* ---- the calls */
 
 /* A controller of 1 to 8 channels with a predictor of any mode, and its own windows, threshold and margin; or a refusal, which leaves *controller unwritten. First come 1 to 6, and then, whether the
@@ -174,16 +189,30 @@ agc2_metrics agc2_compute_partial_metrics_by_value(agc2_controller controller, s
  *     predictor.mode = AGC2_CLIPPING_EVENT_PREDICTION;
  *     refusal = agc2_new_with_predictor(&controller, 1, agc2_default_config(), predictor); */
 static inline uint32_t agc2_new_with_predictor(agc2_controller *controller, int32_t num_capture_channels, agc2_config config, agc2_predictor_config predictor) {
-    agc2_controller made = agc2_new_with_predictor_by_value(num_capture_channels, config, predictor);
-    if (made.refusal == AGC2_ACCEPTED) {
-        *controller = made;
-    }
-    return made.refusal;
+    return agc2_new_in_profile(controller, AGC2_PLAIN, num_capture_channels, config, predictor);
 }
 
 /* The same with the original's predictor. Refuses with 1 to 6. */
 static inline uint32_t agc2_new(agc2_controller *controller, int32_t num_capture_channels, agc2_config config) {
     return agc2_new_with_predictor(controller, num_capture_channels, config, agc2_default_predictor_config());
+}
+
+/* A controller for group teaching, with a predictor of any mode. It takes a narrow set of settings, each bound included:
+ *   - the predictor is on,
+ *   - min_input_volume is 20 to 70,
+ *   - clipped_level_min is at least min_input_volume,
+ *   - target_range_min_dbfs is at most target_range_max_dbfs,
+ *   - clipped_wait_frames and update_input_volume_wait_frames are at least 100,
+ *   - clipped_ratio_threshold is 0 to 1, and so a number.
+ * After any calls, a clipping frame that moves a channel's own volume off the one that is applied to it never moves it below min_input_volume, before the usual minimum is applied to all channels.
+ * Refuses with 1 to 6, and then 7, 14 and 15, as agc2_new_with_predictor does, then with 19 any other settings; else it is the controller of agc2_new_with_predictor, byte for byte. */
+static inline uint32_t agc2_new_classroom_with_predictor(agc2_controller *controller, int32_t num_capture_channels, agc2_config config, agc2_predictor_config predictor) {
+    return agc2_new_in_profile(controller, AGC2_CLASSROOM, num_capture_channels, config, predictor);
+}
+
+/* The same with the original's predictor. Refuses with 1 to 6, then with 19. agc2_default_config is within the profile. */
+static inline uint32_t agc2_new_classroom(agc2_controller *controller, int32_t num_capture_channels, agc2_config config) {
+    return agc2_new_classroom_with_predictor(controller, num_capture_channels, config, agc2_default_predictor_config());
 }
 
 /* Starts anew, with capture on, but keeps the rings, the startup, the volumes and the wait after clipping. A recommendation is none then until a frame comes. */
@@ -288,6 +317,8 @@ static inline const char *agc2_words(uint32_t refusal) {
         return "predictor threshold or margin not -200,000 to 200,000 thousandths of a dB";
     case AGC2_FRAME_LIMITS:
         return "more channels or samples per channel than the spotter's 2 and 160";
+    case AGC2_CLASSROOM_PROFILE:
+        return "settings outside the classroom profile";
     case AGC2_VOLUME_COUNT:
         return "volumes not as many as the channels";
     default:

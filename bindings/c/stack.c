@@ -14,7 +14,7 @@ static unsigned char *stack;
 static long depth;
 
 static agc2_controller controller;
-static agc2_config config;
+static agc2_config config, classroom_config;
 static agc2_predictor_config predictor;
 static float samples[AGC2_MAX_CHANNELS * AGC2_MAX_SAMPLES_PER_CHANNEL];
 static int32_t channels, volume, volumes[AGC2_MAX_CHANNELS], recommended;
@@ -27,6 +27,10 @@ static volatile uint32_t sink;
 __attribute__((noinline)) static void made(void) { sink = agc2_new(&controller, channels, config); }
 
 __attribute__((noinline)) static void made_with(void) { sink = agc2_new_with_predictor(&controller, channels, config, predictor); }
+
+__attribute__((noinline)) static void made_classroom(void) { sink = agc2_new_classroom(&controller, channels, classroom_config); }
+
+__attribute__((noinline)) static void made_classroom_with(void) { sink = agc2_new_classroom_with_predictor(&controller, channels, classroom_config, predictor); }
 
 __attribute__((noinline)) static void framed(void) {
     sink = agc2_analyze_input_audio(&controller, volume, samples_per_channel, samples, (size_t)channels * AGC2_MAX_SAMPLES_PER_CHANNEL);
@@ -84,14 +88,17 @@ static void most(long *seen, call f) {
 
 /* ---- random calls */
 
-enum { NEW, NEW_WITH, FRAME, FRAME_EACH, SHORT, SHORT_EACH, RECOMMEND, INITIALIZE, SWITCH, STORED, METRICS, CALLS };
+enum { NEW, NEW_WITH, CLASSROOM, CLASSROOM_WITH, FRAME, FRAME_EACH, SHORT, SHORT_EACH, RECOMMEND, INITIALIZE, SWITCH, STORED, METRICS, CALLS };
 
+/* Some of the classroom's are outside its profile. */
 static void settings(void) {
     channels = 1 + rand() % AGC2_MAX_CHANNELS;
     config = agc2_default_config();
     config.clipped_wait_frames = rand() % 3;
     config.update_input_volume_wait_frames = rand() % 4;
     config.enable_clipping_predictor = (uint32_t)(rand() % 5);
+    classroom_config = agc2_default_config();
+    classroom_config.min_input_volume = 15 + rand() % 60;
     predictor = agc2_default_predictor_config();
     predictor.mode = (uint32_t)(rand() % 4);
     predictor.window_length = 1 + rand() % 5;
@@ -115,13 +122,17 @@ static void sound(void) {
 }
 
 int main(void) {
-    static const char *const names[CALLS] = {"agc2_new", "agc2_new_with_predictor", "a frame", "a frame with a set", "a frame of the spotter", "a frame of the spotter with a set", "a recommendation", "initialise", "the capture switch", "agc2_stored_record", "agc2_compute_partial_metrics"};
-    static const long bounds[CALLS] = {14200, 14200, 22700, 22700, 22700, 22700, 1900, 1900, 1900, 14200, 14200};
+    static const char *const names[CALLS] = {"agc2_new", "agc2_new_with_predictor", "agc2_new_classroom", "agc2_new_classroom_with_predictor", "a frame", "a frame with a set", "a frame of the spotter",
+                                             "a frame of the spotter with a set", "a recommendation", "initialise", "the capture switch", "agc2_stored_record", "agc2_compute_partial_metrics"};
+    static const long bounds[CALLS] = {14200, 14200, 14200, 14200, 22700, 22700, 22700, 22700, 1900, 1900, 1900, 14200, 14200};
     long seen[CALLS] = {0};
     stack = aligned_alloc(4096, SIZE);
     srand(7);
     for (int round = 0; round < 100; round++) {
         settings();
+        /* the plain ones last: the frames are for them, with their short waits */
+        most(&seen[CLASSROOM], made_classroom);
+        most(&seen[CLASSROOM_WITH], made_classroom_with);
         most(&seen[NEW], made);
         most(&seen[NEW_WITH], made_with);
         for (int n = 0; n < 40; n++) {

@@ -45,6 +45,7 @@ __attribute__((noinline)) static void fill_stack(int with) {
  * every byte up to an end, each the same whatever stood there and on the stack before, and none from there on. */
 typedef void *(*creates)(void *result, int32_t num_capture_channels, agc2_config config);
 typedef void *(*creates_with)(void *result, int32_t num_capture_channels, agc2_config config, agc2_predictor_config predictor);
+typedef void *(*creates_in)(void *result, uint32_t profile, int32_t num_capture_channels, agc2_config config, agc2_predictor_config predictor);
 typedef void *(*initializes)(void *result, agc2_control_state control);
 typedef void *(*computes)(void *result, agc2_controller controller, size_t channel, int32_t delay, int32_t num_items);
 
@@ -68,26 +69,38 @@ static void before_writing(void) {
     memset(ones, 255, sizeof ones);
 }
 
+/* One way to make a controller of one channel, by its number: everybody's two, and within each profile. */
+static void create(int way, void *result, agc2_config config) {
+    const creates plain = (creates)(void (*)(void))agc2_new_by_value;
+    const creates_with with = (creates_with)(void (*)(void))agc2_new_with_predictor_by_value;
+    const creates_in in_profile = (creates_in)(void (*)(void))agc2_new_in_profile_by_value;
+    if (way == 0) {
+        plain(result, 1, config);
+    } else if (way == 1) {
+        with(result, 1, config, agc2_default_predictor_config());
+    } else {
+        in_profile(result, way == 2 ? AGC2_PLAIN : AGC2_CLASSROOM, 1, config, agc2_default_predictor_config());
+    }
+}
+
+/* With the predictor off the classroom's is refused. */
+static void makings_write_a_controller(void) {
+    for (int i = 0; i < 8; i++) {
+        agc2_config d = agc2_default_config();
+        d.enable_clipping_predictor = i < 4;
+        before_writing();
+        fill_stack(0);
+        create(i % 4, zeros, d);
+        fill_stack(255);
+        create(i % 4, ones, d);
+        CHECK(written() == sizeof(agc2_controller));
+    }
+}
+
 static void sizes_are_those_the_archive_writes(void) {
     static const float frame[8] = {0};
     agc2_controller c;
     CHECK(agc2_new(&c, 8, agc2_default_config()) == 0);
-
-    creates create = (creates)(void (*)(void))agc2_new_by_value;
-    before_writing();
-    fill_stack(0);
-    create(zeros, 1, agc2_default_config());
-    fill_stack(255);
-    create(ones, 1, agc2_default_config());
-    CHECK(written() == sizeof(agc2_controller));
-
-    creates_with create_with = (creates_with)(void (*)(void))agc2_new_with_predictor_by_value;
-    before_writing();
-    fill_stack(0);
-    create_with(zeros, 1, agc2_default_config(), agc2_default_predictor_config());
-    fill_stack(255);
-    create_with(ones, 1, agc2_default_config(), agc2_default_predictor_config());
-    CHECK(written() == sizeof(agc2_controller));
 
     before_writing();
     memcpy(zeros, &c, sizeof c);
@@ -406,6 +419,320 @@ static void spotter_refusals(void) {
         }
     }
     CHECK(strcmp(agc2_words(AGC2_FRAME_LIMITS), "more channels or samples per channel than the spotter's 2 and 160") == 0);
+}
+
+/* ---- the classroom profile */
+
+/* The six conditions. A threshold that is not a number is neither at least 0 nor at most 1. */
+static int in_classroom(agc2_config c) {
+    return c.enable_clipping_predictor != 0 && c.min_input_volume >= 20 && c.min_input_volume <= 70 && c.clipped_level_min >= c.min_input_volume && c.target_range_min_dbfs <= c.target_range_max_dbfs &&
+           c.clipped_wait_frames >= 100 && c.update_input_volume_wait_frames >= 100 && c.clipped_ratio_threshold >= 0.0f && c.clipped_ratio_threshold <= 1.0f;
+}
+
+/* What a making of the classroom left in a controller of bytes 0x55, and the whole that stands beside its answer. Accepted, both are the plain controller in all bytes; refused, nothing is written, and the
+ * whole is that of any other refusal but for the number. */
+static void made_as_answered(uint32_t answer, const agc2_controller *left, const agc2_controller *whole, const agc2_controller *plain) {
+    static agc2_controller unwritten, refused;
+    memset(&unwritten, 0x55, sizeof unwritten);
+    refused = agc2_new_by_value(0, agc2_default_config());
+    CHECK(refused.refusal == AGC2_CHANNEL_COUNT);
+    refused.refusal = answer;
+    CHECK(memcmp(left, answer == AGC2_ACCEPTED ? plain : &unwritten, sizeof *left) == 0);
+    CHECK(memcmp(whole, answer == AGC2_ACCEPTED ? plain : &refused, sizeof *whole) == 0);
+}
+
+/* The classroom's making beside the plain one: a refusal of that comes first, and then 19. Its answer. */
+static uint32_t classroom_with(int32_t channels, agc2_config config, agc2_predictor_config predictor) {
+    static agc2_controller plain, left, whole;
+    memset(&left, 0x55, sizeof left);
+    uint32_t taken = agc2_new_with_predictor(&plain, channels, config, predictor), answer = agc2_new_classroom_with_predictor(&left, channels, config, predictor);
+    whole = agc2_new_in_profile_by_value(AGC2_CLASSROOM, channels, config, predictor);
+    CHECK(answer == (taken != AGC2_ACCEPTED ? taken : in_classroom(config) ? AGC2_ACCEPTED : AGC2_CLASSROOM_PROFILE));
+    made_as_answered(answer, &left, &whole, &plain);
+    return answer;
+}
+
+/* The same with the original's predictor. */
+static uint32_t classroom(int32_t channels, agc2_config config) {
+    static agc2_controller plain, left, whole;
+    memset(&left, 0x55, sizeof left);
+    uint32_t taken = agc2_new(&plain, channels, config), answer = agc2_new_classroom(&left, channels, config);
+    whole = agc2_new_in_profile_by_value(UINT32_MAX, channels, config, agc2_default_predictor_config());
+    CHECK(answer == classroom_with(channels, config, agc2_default_predictor_config()) && (taken == AGC2_ACCEPTED || answer == taken));
+    made_as_answered(answer, &left, &whole, &plain);
+    return answer;
+}
+
+/* Settings that the plain controller takes, on both sides of each end: min_input_volume, clipped_level_min, the step, the clipped-ratio threshold, the wait after clipping, the predictor, the upper and the
+ * lower target, the wait between corrections, and the two thresholds of speech. */
+static const struct {
+    agc2_config config;
+    uint32_t refusal;
+} profile_cases[] = {
+    {{20, 70, 15, 0.1f, 300, 1, -30, -50, 100, 0.7f, 0.6f}, AGC2_ACCEPTED},
+    {{10, 5, 15, NAN, 99, 0, -50, -30, 99, 0.7f, 0.6f}, AGC2_CLASSROOM_PROFILE},
+    {{20, 70, 15, 0.1f, 300, 0, -30, -50, 100, 0.7f, 0.6f}, AGC2_CLASSROOM_PROFILE},
+    {{20, 70, 15, 0.1f, 300, 2, -30, -50, 100, 0.7f, 0.6f}, AGC2_ACCEPTED},
+    {{20, 70, 15, 0.1f, 300, 0x80000000u, -30, -50, 100, 0.7f, 0.6f}, AGC2_ACCEPTED},
+    {{0, 70, 15, 0.1f, 300, 1, -30, -50, 100, 0.7f, 0.6f}, AGC2_CLASSROOM_PROFILE},
+    {{19, 70, 15, 0.1f, 300, 1, -30, -50, 100, 0.7f, 0.6f}, AGC2_CLASSROOM_PROFILE},
+    {{21, 70, 15, 0.1f, 300, 1, -30, -50, 100, 0.7f, 0.6f}, AGC2_ACCEPTED},
+    {{69, 255, 15, 0.1f, 300, 1, -30, -50, 100, 0.7f, 0.6f}, AGC2_ACCEPTED},
+    {{70, 255, 15, 0.1f, 300, 1, -30, -50, 100, 0.7f, 0.6f}, AGC2_ACCEPTED},
+    {{71, 255, 15, 0.1f, 300, 1, -30, -50, 100, 0.7f, 0.6f}, AGC2_CLASSROOM_PROFILE},
+    {{255, 255, 15, 0.1f, 300, 1, -30, -50, 100, 0.7f, 0.6f}, AGC2_CLASSROOM_PROFILE},
+    {{20, 0, 15, 0.1f, 300, 1, -30, -50, 100, 0.7f, 0.6f}, AGC2_CLASSROOM_PROFILE},
+    {{20, 19, 15, 0.1f, 300, 1, -30, -50, 100, 0.7f, 0.6f}, AGC2_CLASSROOM_PROFILE},
+    {{20, 20, 15, 0.1f, 300, 1, -30, -50, 100, 0.7f, 0.6f}, AGC2_ACCEPTED},
+    {{45, 44, 15, 0.1f, 300, 1, -30, -50, 100, 0.7f, 0.6f}, AGC2_CLASSROOM_PROFILE},
+    {{45, 45, 15, 0.1f, 300, 1, -30, -50, 100, 0.7f, 0.6f}, AGC2_ACCEPTED},
+    {{70, 69, 15, 0.1f, 300, 1, -30, -50, 100, 0.7f, 0.6f}, AGC2_CLASSROOM_PROFILE},
+    {{70, 70, 15, 0.1f, 300, 1, -30, -50, 100, 0.7f, 0.6f}, AGC2_ACCEPTED},
+    {{20, 70, 15, 0.1f, 300, 1, -30, -30, 100, 0.7f, 0.6f}, AGC2_ACCEPTED},
+    {{20, 70, 15, 0.1f, 300, 1, -30, -29, 100, 0.7f, 0.6f}, AGC2_CLASSROOM_PROFILE},
+    {{20, 70, 15, 0.1f, 300, 1, 30, -90, 100, 0.7f, 0.6f}, AGC2_ACCEPTED},
+    {{20, 70, 15, 0.1f, 300, 1, -90, 30, 100, 0.7f, 0.6f}, AGC2_CLASSROOM_PROFILE},
+    {{20, 70, 15, 0.1f, 300, 1, 0, 1, 100, 0.7f, 0.6f}, AGC2_CLASSROOM_PROFILE},
+    {{20, 70, 15, 0.1f, 300, 1, -1, 0, 100, 0.7f, 0.6f}, AGC2_CLASSROOM_PROFILE},
+    {{20, 70, 15, 0.1f, 0, 1, -30, -50, 100, 0.7f, 0.6f}, AGC2_CLASSROOM_PROFILE},
+    {{20, 70, 15, 0.1f, 99, 1, -30, -50, 100, 0.7f, 0.6f}, AGC2_CLASSROOM_PROFILE},
+    {{20, 70, 15, 0.1f, 100, 1, -30, -50, 100, 0.7f, 0.6f}, AGC2_ACCEPTED},
+    {{20, 70, 15, 0.1f, 65535, 1, -30, -50, 65535, 0.7f, 0.6f}, AGC2_ACCEPTED},
+    {{20, 70, 15, 0.1f, 300, 1, -30, -50, 99, 0.7f, 0.6f}, AGC2_CLASSROOM_PROFILE},
+    {{20, 70, 15, 0.1f, 300, 1, -30, -50, 0, 0.7f, 0.6f}, AGC2_CLASSROOM_PROFILE},
+    {{20, 70, 15, 0.0f, 300, 1, -30, -50, 100, 0.7f, 0.6f}, AGC2_ACCEPTED},
+    {{20, 70, 15, -0.0f, 300, 1, -30, -50, 100, 0.7f, 0.6f}, AGC2_ACCEPTED},
+    {{20, 70, 15, 0x1p-149f, 300, 1, -30, -50, 100, 0.7f, 0.6f}, AGC2_ACCEPTED},
+    {{20, 70, 15, -0x1p-149f, 300, 1, -30, -50, 100, 0.7f, 0.6f}, AGC2_CLASSROOM_PROFILE},
+    {{20, 70, 15, 1.0f, 300, 1, -30, -50, 100, 0.7f, 0.6f}, AGC2_ACCEPTED},
+    {{20, 70, 15, 0x1.000002p0f, 300, 1, -30, -50, 100, 0.7f, 0.6f}, AGC2_CLASSROOM_PROFILE},
+    {{20, 70, 15, NAN, 300, 1, -30, -50, 100, 0.7f, 0.6f}, AGC2_CLASSROOM_PROFILE},
+    {{20, 70, 15, -NAN, 300, 1, -30, -50, 100, 0.7f, 0.6f}, AGC2_CLASSROOM_PROFILE},
+    {{20, 70, 15, INFINITY, 300, 1, -30, -50, 100, 0.7f, 0.6f}, AGC2_CLASSROOM_PROFILE},
+    {{20, 70, 15, -INFINITY, 300, 1, -30, -50, 100, 0.7f, 0.6f}, AGC2_CLASSROOM_PROFILE},
+};
+
+static void classroom_takes_its_profile(void) {
+    for (size_t i = 0; i < sizeof profile_cases / sizeof profile_cases[0]; i++) {
+        agc2_controller plain;
+        for (int32_t channels = 1; channels <= 8; channels++) {
+            CHECK(agc2_new(&plain, channels, profile_cases[i].config) == AGC2_ACCEPTED);
+            CHECK(classroom(channels, profile_cases[i].config) == profile_cases[i].refusal);
+            for (uint32_t mode = 0; mode < 3; mode++) {
+                agc2_predictor_config p = {mode, 1, 1, 1, -3500, 1500};
+                CHECK(classroom_with(channels, profile_cases[i].config, p) == profile_cases[i].refusal);
+            }
+        }
+    }
+    CHECK(strcmp(agc2_words(AGC2_CLASSROOM_PROFILE), "settings outside the classroom profile") == 0);
+}
+
+/* Settings outside the profile that the plain controller refuses too, in the same order. */
+static const struct {
+    int32_t channels;
+    agc2_config config;
+    uint32_t refusal;
+} earlier_cases[] = {
+    {0, {10, 5, 15, NAN, 99, 0, -50, -30, 99, 0.7f, 0.6f}, AGC2_CHANNEL_COUNT},
+    {9, {10, 5, 15, NAN, 99, 0, -50, -30, 99, 0.7f, 0.6f}, AGC2_CHANNEL_COUNT},
+    {1, {-1, 5, 15, NAN, 99, 0, -50, -30, 99, 0.7f, 0.6f}, AGC2_MINIMUM_VOLUME},
+    {1, {256, 5, 15, NAN, 99, 0, -50, -30, 99, 0.7f, 0.6f}, AGC2_MINIMUM_VOLUME},
+    {1, {10, -1, 15, NAN, 99, 0, -50, -30, 99, 0.7f, 0.6f}, AGC2_MINIMUM_VOLUME},
+    {1, {10, 256, 15, NAN, 99, 0, -50, -30, 99, 0.7f, 0.6f}, AGC2_MINIMUM_VOLUME},
+    {1, {10, 5, 0, NAN, 99, 0, -50, -30, 99, 0.7f, 0.6f}, AGC2_CLIPPED_LEVEL_STEP},
+    {1, {10, 5, 256, NAN, 99, 0, -50, -30, 99, 0.7f, 0.6f}, AGC2_CLIPPED_LEVEL_STEP},
+    {1, {10, 5, 15, NAN, -1, 0, -50, -30, 99, 0.7f, 0.6f}, AGC2_WAIT_FRAMES},
+    {1, {10, 5, 15, NAN, 65536, 0, -50, -30, 99, 0.7f, 0.6f}, AGC2_WAIT_FRAMES},
+    {1, {10, 5, 15, NAN, 99, 0, -50, -30, -1, 0.7f, 0.6f}, AGC2_WAIT_FRAMES},
+    {1, {10, 5, 15, NAN, 99, 0, -50, -30, 65536, 0.7f, 0.6f}, AGC2_WAIT_FRAMES},
+    {1, {10, 5, 15, NAN, 99, 0, -91, -30, 99, 0.7f, 0.6f}, AGC2_TARGET_RANGE},
+    {1, {10, 5, 15, NAN, 99, 0, 31, -30, 99, 0.7f, 0.6f}, AGC2_TARGET_RANGE},
+    {1, {10, 5, 15, NAN, 99, 0, -50, -91, 99, 0.7f, 0.6f}, AGC2_TARGET_RANGE},
+    {1, {10, 5, 15, NAN, 99, 0, -50, 31, 99, 0.7f, 0.6f}, AGC2_TARGET_RANGE},
+    {1, {10, 5, 15, NAN, 99, 0, -50, -30, 99, NAN, 0.6f}, AGC2_SPEECH_THRESHOLD},
+    {1, {10, 5, 15, NAN, 99, 0, -50, -30, 99, 0.7f, -1.0f}, AGC2_SPEECH_THRESHOLD},
+};
+
+/* 1 to 6 come before 19, and so do 7, 14 and 15, whichever of the conditions is broken. */
+static void classroom_refuses_last(void) {
+    static const struct {
+        agc2_predictor_config predictor;
+        uint32_t refusal;
+    } predictors[4] = {
+        {{1, 10, 5, 5, -1000, 3000}, AGC2_PREDICTOR_WINDOWS},
+        {{1, 5, 5, 60, -1000, 3000}, AGC2_PREDICTOR_CAPACITY},
+        {{1, 5, 5, 5, -200001, 3000}, AGC2_PREDICTOR_LEVELS},
+        {{1, 5, 5, 5, -1000, 200001}, AGC2_PREDICTOR_LEVELS},
+    };
+    for (size_t i = 0; i < sizeof earlier_cases / sizeof earlier_cases[0]; i++) {
+        CHECK(in_classroom(earlier_cases[i].config) == 0);
+        CHECK(classroom(earlier_cases[i].channels, earlier_cases[i].config) == earlier_cases[i].refusal);
+        for (int k = 0; k < 4; k++) {
+            CHECK(classroom_with(earlier_cases[i].channels, earlier_cases[i].config, predictors[k].predictor) == earlier_cases[i].refusal);
+        }
+    }
+    for (size_t i = 0; i < sizeof profile_cases / sizeof profile_cases[0]; i++) {
+        for (int k = 0; k < 4; k++) {
+            CHECK(classroom_with(1, profile_cases[i].config, predictors[k].predictor) == predictors[k].refusal);
+        }
+    }
+}
+
+/* From low to high, one in ten at an end; one in sixty lies beyond. */
+static int32_t drawn(uint32_t *seed, int32_t low, int32_t high) {
+    uint32_t kind = below(seed, 60), up = below(seed, 2);
+    if (kind == 0) {
+        return up ? high + 1 : low - 1;
+    }
+    if (kind < 7) {
+        return up ? high : low;
+    }
+    return low + (int32_t)below(seed, (uint32_t)(high - low) + 1);
+}
+
+/* The same from 0 to 1. */
+static float drawn_share(uint32_t *seed) {
+    static const float ends[4] = {0.0f, -0.0f, 0x1p-149f, 1.0f}, beyond[6] = {-0x1p-149f, 0x1.000002p0f, NAN, -NAN, INFINITY, -INFINITY};
+    uint32_t kind = below(seed, 60);
+    return kind == 0 ? beyond[below(seed, 6)] : kind < 7 ? ends[below(seed, 4)] : (float)below(seed, 1001) / 1000.0f;
+}
+
+/* Settings, most of them in the profile or just beside it; one in forty has any bits in one place. */
+static agc2_config any_config(uint32_t *seed) {
+    agc2_config c = agc2_default_config();
+    c.min_input_volume = below(seed, 12) ? drawn(seed, 20, 70) : drawn(seed, 0, 255);
+    c.clipped_level_min = below(seed, 12) ? c.min_input_volume + drawn(seed, 0, 185) : drawn(seed, 0, 255);
+    c.clipped_level_step = drawn(seed, 1, 255);
+    c.clipped_ratio_threshold = drawn_share(seed);
+    c.clipped_wait_frames = below(seed, 12) ? drawn(seed, 100, 65535) : drawn(seed, 0, 65535);
+    c.enable_clipping_predictor = below(seed, 12);
+    c.target_range_min_dbfs = drawn(seed, -90, 30);
+    c.target_range_max_dbfs = below(seed, 12) ? c.target_range_min_dbfs + drawn(seed, 0, 20) : drawn(seed, -90, 30);
+    c.update_input_volume_wait_frames = below(seed, 12) ? drawn(seed, 100, 65535) : drawn(seed, 0, 65535);
+    c.speech_probability_threshold = drawn_share(seed);
+    c.speech_ratio_threshold = drawn_share(seed);
+    if (below(seed, 40) == 0) {
+        uint32_t bits = below(seed, 65536) << 16;
+        bits |= below(seed, 65536);
+        memcpy((unsigned char *)&c + sizeof bits * below(seed, sizeof c / sizeof bits), &bits, sizeof bits);
+    }
+    return c;
+}
+
+static agc2_predictor_config any_predictor(uint32_t *seed) {
+    agc2_predictor_config p = agc2_default_predictor_config();
+    p.mode = below(seed, 4);
+    p.window_length = drawn(seed, 1, 6);
+    p.reference_window_length = drawn(seed, 1, 30);
+    p.reference_window_delay = drawn(seed, 0, 40);
+    p.clipping_threshold = drawn(seed, -200000, 200000);
+    p.crest_factor_margin = drawn(seed, -200000, 200000);
+    return p;
+}
+
+/* The answer is the plain refusal if there is one, else 19 or 0 by the six conditions; each answer comes up. */
+static void classroom_answers_by_the_conditions(void) {
+    static const uint32_t refusals_of_both[9] = {1, 2, 3, 4, 5, 6, 7, 14, 15};
+    uint32_t seed = 19, answers[21] = {0};
+    for (int k = 0; k < 30000; k++) {
+        int32_t channels = drawn(&seed, 1, 8);
+        agc2_config config = any_config(&seed);
+        agc2_predictor_config predictor = any_predictor(&seed);
+        answers[k % 2 ? classroom(channels, config) : classroom_with(channels, config, predictor)]++;
+    }
+    CHECK(answers[AGC2_ACCEPTED] > 3000 && answers[AGC2_CLASSROOM_PROFILE] > 3000);
+    for (int i = 0; i < 9; i++) {
+        CHECK(answers[refusals_of_both[i]] > 100);
+    }
+}
+
+/* How often a frame moved a channel's own volume off its applied one: with one volume and with a set, and of both to the minimum itself and below it. */
+typedef struct moves {
+    int one, each, to_minimum, below_minimum;
+} moves;
+
+/* A state begins with 32 bytes for each channel, and the 28th of them is its own volume. */
+static int32_t own_volume(const agc2_controller *c, int32_t channel) { return ((const unsigned char *)&c->control.state)[32 * channel + 27]; }
+
+/* After an accepted frame. The controller's volume is the lowest of the channels' own, raised to the minimum unless 0 is applied: so these are what is read. */
+static void count_moves(const agc2_controller *c, int32_t channels, int32_t least, const any_frame *f, moves *m) {
+    int32_t lowest = 255, applied = 255;
+    for (int32_t i = 0; i < channels; i++) {
+        int32_t own = own_volume(c, i), given = f->volumes[f->each ? i : 0];
+        lowest = own < lowest ? own : lowest;
+        applied = given < applied ? given : applied;
+        m->one += own != given && !f->each;
+        m->each += own != given && f->each;
+        m->to_minimum += own != given && own == least;
+        m->below_minimum += own != given && own < least;
+    }
+    CHECK(agc2_recommended_input_volume(c) == (applied != 0 && lowest < least ? least : lowest));
+}
+
+/* A frame of a lesson, of which half clip. Most volumes are near the user's; with one above 255 a frame is refused. */
+static any_frame lesson_frame(int32_t users, size_t channels, uint32_t *seed) {
+    static float samples[8 * 4];
+    any_frame f = {4, 4 * channels, samples, (int)below(seed, 2), {0}, channels};
+    float loud = below(seed, 2) ? 33000.0f : 29500.0f;
+    for (size_t i = 0; i < f.count; i++) {
+        samples[i] = below(seed, 4) ? loud : (float)below(seed, 500);
+    }
+    for (int i = 0; i < 9; i++) {
+        int32_t given = below(seed, 16) ? users - 12 + (int32_t)below(seed, 25) : (int32_t)below(seed, 256);
+        f.volumes[i] = given < 0 ? 0 : given;
+    }
+    return f;
+}
+
+/* Frames through both entries, recommendations, initialises and capture switches. Now and then the user sets another volume, or takes the controller's. */
+static void lesson(agc2_controller *c, int32_t channels, int32_t least, uint32_t *seed, moves *m) {
+    int32_t users = 100;
+    for (int k = 0; k < 600; k++) {
+        uint32_t kind = below(seed, 100);
+        float level = (float)below(seed, 90) - 90.0f;
+        int32_t recommended;
+        if (kind < 2) {
+            agc2_initialize(c);
+        } else if (kind < 8) {
+            agc2_handle_capture_output_used_change(c, kind != 2);
+        } else if (kind < 12) {
+            users = kind < 10 ? agc2_recommended_input_volume(c) : (int32_t)below(seed, 256);
+        }
+        any_frame f = lesson_frame(users, (size_t)channels, seed);
+        uint32_t answer = below(seed, 4) ? through_plain(c, &f) : through_spotter(c, &f);
+        if (answer == AGC2_ACCEPTED) {
+            count_moves(c, channels, least, &f, m);
+        }
+        if (below(seed, 4)) {
+            agc2_recommend_input_volume(c, 0.9f, below(seed, 8) ? &level : NULL, &recommended);
+        }
+    }
+}
+
+/* Lessons with the shortest waits and a low clipped_level_min, so that much is moved: of controllers for a classroom, or of plain ones with clipped_level_min below min_input_volume. */
+static moves lessons(int narrow) {
+    static agc2_controller c;
+    uint32_t seed = 12;
+    moves m = {0, 0, 0, 0};
+    for (int k = 0; k < 1000; k++) {
+        int32_t channels = drawn(&seed, 1, 8);
+        agc2_config config = any_config(&seed);
+        agc2_predictor_config predictor = any_predictor(&seed);
+        config.clipped_wait_frames = config.update_input_volume_wait_frames = 100 + k % 3;
+        config.clipped_level_min = narrow ? config.min_input_volume + k % 2 * 20 : config.min_input_volume / 2;
+        uint32_t answer = narrow ? agc2_new_classroom_with_predictor(&c, channels, config, predictor) : agc2_new_with_predictor(&c, channels, config, predictor);
+        if (answer == AGC2_ACCEPTED) {
+            lesson(&c, channels, config.min_input_volume, &seed, &m);
+        }
+    }
+    return m;
+}
+
+/* In a classroom no frame moves a channel's own volume off its applied one to below min_input_volume, after any calls. The plain controller's frames do, where clipped_level_min lies below that. */
+static void classroom_stays_above_the_minimum(void) {
+    moves narrow = lessons(1), plain = lessons(0);
+    CHECK(narrow.one > 1000 && narrow.each > 1000 && narrow.to_minimum > 500 && narrow.below_minimum == 0);
+    CHECK(plain.one > 1000 && plain.each > 1000 && plain.below_minimum > 500);
 }
 
 /* ---- the calls */
@@ -762,11 +1089,16 @@ static void speech(void) {
 
 int main(void) {
     sizes_are_those_the_archive_states();
+    makings_write_a_controller();
     sizes_are_those_the_archive_writes();
     equal_histories_have_equal_bytes();
     equal_volumes_are_one();
     spotter_is_plain_within_its_limits();
     spotter_refusals();
+    classroom_takes_its_profile();
+    classroom_refuses_last();
+    classroom_answers_by_the_conditions();
+    classroom_stays_above_the_minimum();
     default_settings();
     the_example();
     marks();

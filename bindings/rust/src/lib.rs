@@ -3,6 +3,7 @@
 //! [`InputVolumeController`] has the names and the meaning of aec3-rs's. What differs: an `AudioBuffer` is one slice, channels one after another,
 //! the experimental target is left out of the settings, and what the original asserts is answered with a [`Refusal`], which leaves the controller
 //! as it was. A controller may have a clipping predictor of any of the three modes ([`InputVolumeController::with_predictor`]); the original's has one.
+//! One for group teaching takes a narrow set of settings ([`InputVolumeController::classroom`]).
 //! A word spotter, which must not pass a large frame by accident, is handed a [`Spotter`] and not the controller.
 //!
 //! A frame is 10 ms of sound, at up to 48 kHz, as floats on the 16-bit scale, -32768 to 32767. Samples from -1.0 to 1.0 are all but silence on it
@@ -153,8 +154,44 @@ impl InputVolumeController {
     /// # Ok::<(), Refusal>(())
     /// ```
     pub fn with_predictor(num_capture_channels: i32, config: Config, predictor: ClippingPredictorConfig) -> Result<Self, Refusal> {
+        InputVolumeController::in_profile(raw::PLAIN, num_capture_channels, config, predictor)
+    }
+
+    /// A controller for group teaching, of 1 to 8 channels, with the original's predictor. It takes a narrow set of settings, each bound included:
+    ///
+    /// - [`Config::enable_clipping_predictor`] is true,
+    /// - [`Config::min_input_volume`] is 20 to 70,
+    /// - [`Config::clipped_level_min`] is at least `min_input_volume`,
+    /// - [`Config::target_range_min_dbfs`] is at most [`Config::target_range_max_dbfs`],
+    /// - [`Config::clipped_wait_frames`] and [`Config::update_input_volume_wait_frames`] are at least 100,
+    /// - [`Config::clipped_ratio_threshold`] is 0 to 1, and so a number.
+    ///
+    /// After any calls, a clipping frame that moves a channel's own volume off the one that is applied to it never moves it below `min_input_volume`, before the usual minimum is
+    /// applied to all channels. Refuses with causes 1 to 6 as [`InputVolumeController::new`] does, then with 19 any other settings; else it is the controller that `new` makes.
+    ///
+    /// ```
+    /// use agc2::{Config, InputVolumeController, Refusal};
+    ///
+    /// let mut controller = InputVolumeController::classroom(2, Config { min_input_volume: 70, ..Config::default() })?;
+    /// controller.analyze_input_audio(200, 1, &[0.0, 0.0])?;
+    /// let outside = Config { min_input_volume: 71, clipped_level_min: 71, ..Config::default() };
+    /// assert_eq!(InputVolumeController::classroom(2, outside).err(), Some(Refusal::ClassroomProfile));
+    /// assert!(InputVolumeController::new(2, outside).is_ok());
+    /// # Ok::<(), Refusal>(())
+    /// ```
+    pub fn classroom(num_capture_channels: i32, config: Config) -> Result<Self, Refusal> {
+        InputVolumeController::classroom_with_predictor(num_capture_channels, config, ClippingPredictorConfig::default())
+    }
+
+    /// The same with a predictor of any mode. Refuses with causes 1 to 6, and then 7, 14 and 15, as [`InputVolumeController::with_predictor`] does, then with 19.
+    pub fn classroom_with_predictor(num_capture_channels: i32, config: Config, predictor: ClippingPredictorConfig) -> Result<Self, Refusal> {
+        InputVolumeController::in_profile(raw::CLASSROOM, num_capture_channels, config, predictor)
+    }
+
+    /// What the archive's making answers within a profile.
+    fn in_profile(profile: u32, num_capture_channels: i32, config: Config, predictor: ClippingPredictorConfig) -> Result<Self, Refusal> {
         // SAFETY: the function takes any numbers.
-        let made = unsafe { raw::agc2_new_with_predictor_by_value(num_capture_channels, config.in_numbers(), predictor.in_numbers()) };
+        let made = unsafe { raw::agc2_new_in_profile_by_value(profile, num_capture_channels, config.in_numbers(), predictor.in_numbers()) };
         Refusal::check(made.refusal)?;
         Ok(InputVolumeController { raw: made })
     }

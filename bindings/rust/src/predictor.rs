@@ -42,7 +42,8 @@ pub struct ClippingPredictorConfig {
 }
 
 impl Default for ClippingPredictorConfig {
-    /// The predictor of the original's controller, and of [`InputVolumeController::new`](crate::InputVolumeController::new).
+    /// The predictor of the original's controller, and of [`InputVolumeController::new`](crate::InputVolumeController::new) and
+    /// [`InputVolumeController::classroom`](crate::InputVolumeController::classroom).
     fn default() -> Self {
         // SAFETY: the function takes nothing and asks for nothing.
         let c = unsafe { raw::agc2_default_predictor_config() };

@@ -77,6 +77,10 @@ pub struct Metrics {
     pub clipped: u32,
 }
 
+/// For whom a controller is made: everybody, or group teaching.
+pub const PLAIN: u32 = 0;
+pub const CLASSROOM: u32 = 1;
+
 #[cfg(test)]
 #[repr(C)]
 #[derive(Debug, PartialEq, Eq)]
@@ -95,7 +99,7 @@ pub struct Layout {
 extern "C" {
     pub fn agc2_default_config() -> Config;
     pub fn agc2_default_predictor_config() -> PredictorConfig;
-    pub fn agc2_new_with_predictor_by_value(num_capture_channels: i32, config: Config, predictor: PredictorConfig) -> Controller;
+    pub fn agc2_new_in_profile_by_value(profile: u32, num_capture_channels: i32, config: Config, predictor: PredictorConfig) -> Controller;
     pub fn agc2_initialize_by_value(control: ControlState) -> ControlState;
     pub fn agc2_handle_capture_output_used_change_by_value(control: ControlState, capture_output_used: u32) -> ControlState;
     pub fn agc2_analyze_input_audio_into(controller: &mut Controller, applied_input_volume: i32, samples_per_channel: usize, samples: *const f32, count: usize);
@@ -151,5 +155,30 @@ mod tests {
         // SAFETY: the function takes nothing and asks for nothing.
         assert_eq!(unsafe { agc2_layout() }, here);
         assert_eq!(align_of::<Controller>(), 8);
+    }
+
+    fn bytes(c: &Controller) -> &[u8] {
+        // SAFETY: these are the bytes of the struct, which has no gap.
+        unsafe { std::slice::from_raw_parts((c as *const Controller).cast(), size_of::<Controller>()) }
+    }
+
+    /// Accepted, it is the plain controller of the same arguments; refused, it is what any refused making is, but for the number.
+    #[test]
+    fn a_classroom_controller_is_the_plain_one_byte_for_byte() {
+        // SAFETY: the functions take any numbers.
+        let (settings, predictor) = unsafe { (agc2_default_config(), agc2_default_predictor_config()) };
+        for (channels, enable_clipping_predictor, refusal) in [(0, 1, 1), (1, 0, 19), (1, 1, 0), (8, 0x8000_0000, 0), (8, 0, 19), (9, 0, 1)] {
+            let config = Config { enable_clipping_predictor, ..settings };
+            // SAFETY: the functions take any numbers.
+            let (made, plain) = unsafe {
+                (
+                    agc2_new_in_profile_by_value(CLASSROOM, channels, config, predictor),
+                    agc2_new_in_profile_by_value(PLAIN, if refusal == 0 { channels } else { 0 }, config, predictor),
+                )
+            };
+            assert_eq!((made.refusal, plain.refusal), (refusal, u32::from(refusal != 0)));
+            let expected = Controller { refusal, ..plain };
+            assert!(bytes(&made) == bytes(&expected));
+        }
     }
 }

@@ -32,6 +32,8 @@ pub enum Refusal {
     PredictorLevels = 15,
     /// more channels or samples per channel than the spotter's 2 and 160
     FrameLimits = 18,
+    /// settings outside the classroom profile
+    ClassroomProfile = 19,
     /// volumes not as many as the channels
     VolumeCount = 20,
 }
@@ -59,6 +61,7 @@ impl Refusal {
             14 => Refusal::PredictorCapacity,
             15 => Refusal::PredictorLevels,
             18 => Refusal::FrameLimits,
+            19 => Refusal::ClassroomProfile,
             20 => Refusal::VolumeCount,
             other => unreachable!("libagc2.a answered {other}, which is no refusal of it"),
         })
@@ -81,6 +84,7 @@ impl fmt::Display for Refusal {
             Refusal::PredictorCapacity => "predictor delay + reference above 64",
             Refusal::PredictorLevels => "predictor threshold or margin not -200,000 to 200,000 thousandths of a dB",
             Refusal::FrameLimits => "more channels or samples per channel than the spotter's 2 and 160",
+            Refusal::ClassroomProfile => "settings outside the classroom profile",
             Refusal::VolumeCount => "volumes not as many as the channels",
         })
     }

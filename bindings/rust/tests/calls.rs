@@ -273,6 +273,237 @@ fn a_spotters_frame_is_the_plain_one() {
     }
 }
 
+/// The six conditions. A threshold that is not a number is in no range.
+fn in_classroom(c: &Config) -> bool {
+    c.enable_clipping_predictor
+        && (20..=70).contains(&c.min_input_volume)
+        && c.clipped_level_min >= c.min_input_volume
+        && c.target_range_min_dbfs <= c.target_range_max_dbfs
+        && c.clipped_wait_frames >= 100
+        && c.update_input_volume_wait_frames >= 100
+        && (0.0..=1.0).contains(&c.clipped_ratio_threshold)
+}
+
+/// The classroom's making beside the plain one: a refusal of that comes first, then 19 by the conditions, and else the two controllers are alike after a clipped frame. Its refusal.
+fn classroom_with(channels: i32, config: Config, predictor: ClippingPredictorConfig) -> Option<Refusal> {
+    let plain = InputVolumeController::with_predictor(channels, config, predictor);
+    let classroom = InputVolumeController::classroom_with_predictor(channels, config, predictor);
+    let refusal = classroom.as_ref().err().copied();
+    match (plain, classroom) {
+        (Err(cause), _) => assert_eq!(refusal, Some(cause)),
+        (Ok(_), Err(cause)) => assert_eq!((cause, in_classroom(&config)), (Refusal::ClassroomProfile, false)),
+        (Ok(mut plain), Ok(mut classroom)) => {
+            assert!(in_classroom(&config), "{config:?}");
+            let frame = vec![32767.0; channels as usize];
+            assert_eq!(plain.analyze_input_audio(200, 1, &frame), classroom.analyze_input_audio(200, 1, &frame));
+            assert_eq!(seen(&plain), seen(&classroom));
+            assert_eq!(plain.recommend_input_volume(0.9, Some(-40.0)), classroom.recommend_input_volume(0.9, Some(-40.0)));
+        }
+    }
+    refusal
+}
+
+/// The same with the original's predictor.
+fn classroom(channels: i32, config: Config) -> Option<Refusal> {
+    let refusal = InputVolumeController::classroom(channels, config).err();
+    assert_eq!(classroom_with(channels, config, ClippingPredictorConfig::default()), refusal);
+    refusal
+}
+
+type Change = fn(&mut Config);
+
+/// The default settings are in the profile. These lie on both sides of each end of the six conditions, with whether they are in it too; the plain controller takes them all.
+const CHANGES: [(Change, bool); 37] = [
+    (|_| (), true),
+    (|c| c.enable_clipping_predictor = false, false),
+    (|c| c.min_input_volume = 0, false),
+    (|c| c.min_input_volume = 19, false),
+    (|c| c.min_input_volume = 20, true),
+    (|c| (c.min_input_volume, c.clipped_level_min) = (70, 255), true),
+    (|c| (c.min_input_volume, c.clipped_level_min) = (71, 255), false),
+    (|c| (c.min_input_volume, c.clipped_level_min) = (255, 255), false),
+    (|c| c.clipped_level_min = 0, false),
+    (|c| c.clipped_level_min = 19, false),
+    (|c| c.clipped_level_min = 20, true),
+    (|c| (c.min_input_volume, c.clipped_level_min) = (45, 44), false),
+    (|c| (c.min_input_volume, c.clipped_level_min) = (45, 45), true),
+    (|c| (c.min_input_volume, c.clipped_level_min) = (70, 69), false),
+    (|c| (c.min_input_volume, c.clipped_level_min) = (70, 70), true),
+    (|c| c.target_range_min_dbfs = -30, true),
+    (|c| c.target_range_min_dbfs = -29, false),
+    (|c| (c.target_range_min_dbfs, c.target_range_max_dbfs) = (-90, 30), true),
+    (|c| (c.target_range_min_dbfs, c.target_range_max_dbfs) = (30, -90), false),
+    (|c| (c.target_range_min_dbfs, c.target_range_max_dbfs) = (0, -1), false),
+    (|c| (c.target_range_min_dbfs, c.target_range_max_dbfs) = (1, 0), false),
+    (|c| c.clipped_wait_frames = 0, false),
+    (|c| c.clipped_wait_frames = 99, false),
+    (|c| c.clipped_wait_frames = 100, true),
+    (|c| c.update_input_volume_wait_frames = 0, false),
+    (|c| c.update_input_volume_wait_frames = 99, false),
+    (|c| (c.clipped_wait_frames, c.update_input_volume_wait_frames) = (65_535, 65_535), true),
+    (|c| c.clipped_ratio_threshold = 0.0, true),
+    (|c| c.clipped_ratio_threshold = -0.0, true),
+    (|c| c.clipped_ratio_threshold = f32::from_bits(1), true),
+    (|c| c.clipped_ratio_threshold = -f32::from_bits(1), false),
+    (|c| c.clipped_ratio_threshold = 1.0, true),
+    (|c| c.clipped_ratio_threshold = 1.0 + f32::EPSILON, false),
+    (|c| c.clipped_ratio_threshold = f32::NAN, false),
+    (|c| c.clipped_ratio_threshold = -f32::NAN, false),
+    (|c| c.clipped_ratio_threshold = f32::INFINITY, false),
+    (|c| c.clipped_ratio_threshold = f32::NEG_INFINITY, false),
+];
+
+/// The settings of each change.
+fn changed() -> impl Iterator<Item = (Config, bool)> {
+    CHANGES.into_iter().map(|(change, taken)| {
+        let mut config = Config::default();
+        change(&mut config);
+        (config, taken)
+    })
+}
+
+#[test]
+fn a_classroom_takes_its_profile() {
+    let events = ClippingPredictorConfig { mode: ClippingPredictorMode::ClippingEventPrediction, ..ClippingPredictorConfig::default() };
+    for (config, taken) in changed() {
+        let refusal = (!taken).then_some(Refusal::ClassroomProfile);
+        for channels in 1..=MAX_CHANNELS as i32 {
+            assert!(InputVolumeController::new(channels, config).is_ok());
+            assert_eq!(classroom(channels, config), refusal, "{config:?}");
+            assert_eq!(classroom_with(channels, config, events), refusal, "{config:?}");
+        }
+    }
+    assert_eq!((Refusal::ClassroomProfile.number(), Refusal::ClassroomProfile.to_string().as_str()), (19, "settings outside the classroom profile"));
+}
+
+/// What the plain controller refuses with 2 to 6.
+const EARLIER: [(Change, Refusal); 13] = [
+    (|c| c.min_input_volume = -1, Refusal::MinimumVolume),
+    (|c| c.min_input_volume = 256, Refusal::MinimumVolume),
+    (|c| c.clipped_level_min = -1, Refusal::MinimumVolume),
+    (|c| c.clipped_level_min = 256, Refusal::MinimumVolume),
+    (|c| c.clipped_level_step = 0, Refusal::ClippedLevelStep),
+    (|c| c.clipped_level_step = 256, Refusal::ClippedLevelStep),
+    (|c| c.clipped_wait_frames = 65_536, Refusal::WaitFrames),
+    (|c| c.clipped_wait_frames = -1, Refusal::WaitFrames),
+    (|c| c.update_input_volume_wait_frames = -1, Refusal::WaitFrames),
+    (|c| c.target_range_max_dbfs = -91, Refusal::TargetRange),
+    (|c| c.target_range_min_dbfs = 31, Refusal::TargetRange),
+    (|c| c.speech_probability_threshold = f32::NAN, Refusal::SpeechThreshold),
+    (|c| c.speech_ratio_threshold = 1.5, Refusal::SpeechThreshold),
+];
+
+/// 1 to 6 come before 19, and so do 7, 14 and 15, whichever of the conditions is broken.
+#[test]
+fn a_classroom_refuses_after_the_plain_causes() {
+    let base = ClippingPredictorConfig::default();
+    let predictors = [
+        (ClippingPredictorConfig { window_length: 10, ..base }, Refusal::PredictorWindows),
+        (ClippingPredictorConfig { reference_window_delay: 60, ..base }, Refusal::PredictorCapacity),
+        (ClippingPredictorConfig { clipping_threshold: -200_001, ..base }, Refusal::PredictorLevels),
+        (ClippingPredictorConfig { crest_factor_margin: 200_001, ..base }, Refusal::PredictorLevels),
+    ];
+    for (config, _) in changed() {
+        for (predictor, cause) in predictors {
+            assert_eq!(classroom_with(1, config, predictor), Some(cause), "{config:?}");
+            assert_eq!(classroom_with(0, config, predictor), Some(Refusal::ChannelCount));
+        }
+        assert_eq!(classroom(MAX_CHANNELS as i32 + 1, config), Some(Refusal::ChannelCount));
+        for (change, cause) in EARLIER {
+            // the predictor is off, so that 19 holds besides
+            let mut wrong = Config { enable_clipping_predictor: false, ..config };
+            change(&mut wrong);
+            assert_eq!(classroom(1, wrong), Some(cause), "{wrong:?}");
+            assert_eq!(classroom_with(1, wrong, predictors[0].0), Some(cause), "{wrong:?}");
+        }
+    }
+}
+
+/// Numbers that are equal in every run.
+struct Draws(u32);
+
+impl Draws {
+    fn below(&mut self, limit: u32) -> u32 {
+        self.0 = self.0.wrapping_mul(1_664_525).wrapping_add(1_013_904_223);
+        (self.0 >> 8) % limit
+    }
+
+    /// From low to high, one in ten at an end; one in sixty lies beyond.
+    fn within(&mut self, low: i32, high: i32) -> i32 {
+        match (self.below(60), self.below(2)) {
+            (0, 0) => low - 1,
+            (0, _) => high + 1,
+            (1..7, 0) => low,
+            (1..7, _) => high,
+            _ => low + self.below((high - low) as u32 + 1) as i32,
+        }
+    }
+
+    /// The same from 0 to 1.
+    fn share(&mut self) -> f32 {
+        match self.below(60) {
+            0 => [-f32::from_bits(1), 1.0 + f32::EPSILON, f32::NAN, f32::INFINITY, f32::NEG_INFINITY][self.below(5) as usize],
+            1..7 => [0.0, -0.0, f32::from_bits(1), 1.0][self.below(4) as usize],
+            _ => self.below(1001) as f32 / 1000.0,
+        }
+    }
+
+    /// One range, or at one in twelve the other.
+    fn mostly(&mut self, narrow: [i32; 2], wide: [i32; 2]) -> i32 {
+        let [low, high] = if self.below(12) == 0 { wide } else { narrow };
+        self.within(low, high)
+    }
+
+    /// Settings, most of them in the profile or just beside it.
+    fn config(&mut self) -> Config {
+        let min_input_volume = self.mostly([20, 70], [0, 255]);
+        let target_range_min_dbfs = self.within(-90, 30);
+        Config {
+            min_input_volume,
+            clipped_level_min: min_input_volume + self.mostly([0, 185], [-70, 185]),
+            clipped_level_step: self.within(1, 255),
+            clipped_ratio_threshold: self.share(),
+            clipped_wait_frames: self.mostly([100, 65_535], [0, 65_535]),
+            enable_clipping_predictor: self.below(12) != 0,
+            target_range_max_dbfs: target_range_min_dbfs + self.mostly([0, 20], [-60, 20]),
+            target_range_min_dbfs,
+            update_input_volume_wait_frames: self.mostly([100, 65_535], [0, 65_535]),
+            speech_probability_threshold: self.share(),
+            speech_ratio_threshold: self.share(),
+        }
+    }
+
+    fn predictor(&mut self) -> ClippingPredictorConfig {
+        let modes = [
+            ClippingPredictorMode::ClippingEventPrediction,
+            ClippingPredictorMode::AdaptiveStepClippingPeakPrediction,
+            ClippingPredictorMode::FixedStepClippingPeakPrediction,
+        ];
+        ClippingPredictorConfig {
+            mode: modes[self.below(3) as usize],
+            window_length: self.within(1, 6),
+            reference_window_length: self.within(1, 30),
+            reference_window_delay: self.within(0, 40),
+            clipping_threshold: self.within(-200_000, 200_000),
+            crest_factor_margin: self.within(-200_000, 200_000),
+        }
+    }
+}
+
+/// The plain refusal if there is one, else 19 or none by the six conditions; each comes up.
+#[test]
+fn a_classroom_answers_by_the_conditions() {
+    let (mut draws, mut answers) = (Draws(19), [0; 21]);
+    for k in 0..20_000 {
+        let (channels, config, predictor) = (draws.within(1, MAX_CHANNELS as i32), draws.config(), draws.predictor());
+        let refusal = if k % 2 == 0 { classroom(channels, config) } else { classroom_with(channels, config, predictor) };
+        answers[refusal.map_or(0, Refusal::number) as usize] += 1;
+    }
+    for (answer, least) in [(0, 2000), (19, 2000), (1, 100), (2, 100), (3, 100), (4, 100), (5, 100), (6, 100), (7, 100), (14, 100), (15, 100)] {
+        assert!(answers[answer] > least, "{answer}: {answers:?}");
+    }
+}
+
 #[test]
 fn every_channel_count_and_every_sample_is_taken() {
     for channels in 1..=MAX_CHANNELS {

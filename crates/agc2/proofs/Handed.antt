@@ -1,14 +1,19 @@
 -- A call on what the numbers stand for, and the numbers of what it hands back. Assumes nothing.
 use mathlib.Core.Path.{_≡_, refl, sym, ap, subst, _∙_}
 use mathlib.Core.List.{List}
-use Prim.Native.Nat.{ℕ}
+use Prim.Native.Nat.{ℕ, _^_, _<_}
 use native.Mathlib.Omega.{arith}
 use lib.IntN.{ℤ}
+use lib.Signed.{mag}
 use lib.Ieee.{Float}
 use mir.Syntax.{w32}
 use mir.Val.{ofZ, toZ, SFits}
 use mir.ValLaws.{toZ-ofZ}
 use Rattle.numbers.specs.Said.{outcomeSays}
+use Rattle.numbers.proofs.Signs.{read}
+use Rattle.clipping_predictor.specs.declared.settings.ClippingPredictorConfig.{ClippingPredictorConfig}
+use Rattle.mono_input_volume_controller.specs.declared.config.Config.{Config}
+use Rattle.mono_input_volume_controller.specs.declared.profile.Profile.{Profile}
 use Rattle.numbers.specs.declared.refusal.Refusal.{Refusal}
 use Rattle.input_volume_controller.specs.declared.limits.Limits.{Limits}
 use Rattle.input_volume_controller.specs.declared.Analysis.{Analysis}
@@ -22,6 +27,8 @@ use Rattle.input_volume_controller.specs.declared.InputVolumeController.{InputV
 use Rattle.input_volume_controller.specs.Control.{Good as GoodControl}
 use Rattle.input_volume_controller.specs.Controller.{together, viewOf, Good, Becomes, basePredictor}
 use Rattle.input_volume_controller.specs.Controller as Making
+use Rattle.input_volume_controller.specs.Profile.{makingIn, CreatedIn}
+use Rattle.input_volume_controller.proofs.Profiles.{made-at}
 use Rattle.input_volume_controller.specs.Reply.{Reply, refusal, analysisSays, recommendationSays}
 use Rattle.input_volume_controller.specs.Calls.{Call, ControlDoes}
 use Rattle.input_volume_controller.specs.Calls as Calls
@@ -65,10 +72,16 @@ pub base-back : predictorConfigOf (predictorInNumbers basePredictor) ≡ basePre
 unfolding predictorConfigOf modeOf
 base-back = refl
 
-pub created : {making : Making.Making} (m : Created) {n : ℕ} {r : Agc2Controller} → n ≡ outcomeNumber (outcomeSays (m .answer)) → r ≡ besideOf n 0 (m .controller) → Making.CreatedAs making m → CreatedAs making r
-created {making} m {n} {r} f e h =
+created : {making : Making.Making} (m : Created) {n : ℕ} {r : Agc2Controller} → n ≡ outcomeNumber (outcomeSays (m .answer)) → r ≡ besideOf n 0 (m .controller) → Making.CreatedAs making m → CreatedAs making r
+created {making} m {n} f e h =
     subst (λ (x : Agc2Controller). CreatedAs making x) (sym e)
     (record { refusal = f ∙ ap outcomeNumber (h .answer); near = refl; unanswered = record { present = refl; volume = refl }; becomes = becomes n 0 (m .controller) (h .good) (h .view) })
+
+-- within any profile, with the arguments as the machine reads them back
+pub created-in : {profile told : Profile} (channels : ℤ) {c d : Config} {p q : ClippingPredictorConfig} (m : Created) {n : ℕ} {r : Agc2Controller} → mag channels < 2 ^ 31 → told ≡ profile → c ≡ d → p ≡ q
+    → CreatedIn told (read channels) c p m → n ≡ outcomeNumber (outcomeSays (m .answer)) → r ≡ besideOf n 0 (m .controller) → CreatedAs (makingIn profile channels d q) r
+created-in {told = told} channels {d = d} {q = q} m {r = r} fits same e f h number is =
+    subst (λ (x : Profile). CreatedAs (makingIn x channels d q) r) same (created m number is (made-at (λ (x : Making.Making). Making.CreatedAs x m) told channels fits e f h))
 
 -- ---- a frame
 

@@ -1,9 +1,12 @@
 -- The settings as C has them, any bits, and as the controller has them. Definitions only.
-use mathlib.Core.Bool.{false}
+use mathlib.Core.Bool.{Bool, true, false}
+use Prim.Native.Nat.{ℕ}
 use Rattle.numbers.specs.Flag.{isSet, flagOf}
 use Rattle.clipping_predictor.specs.declared.settings.ClippingPredictorConfig.{ClippingPredictorConfig}
 use Rattle.clipping_predictor.specs.Settings as Predictor
 use Rattle.mono_input_volume_controller.specs.declared.config.Config.{Config}
+use Rattle.mono_input_volume_controller.specs.declared.profile.Profile.{Profile}
+use Rattle.mono_input_volume_controller.specs.declared.profile.Profile.the-variants.{Plain, Classroom}
 use Rattle.input_volume_controller.specs.Plain.{modeOf, modeNumber}
 use Rattle.agc2.specs.declared.settings.Agc2Config.{Agc2Config}
 use Rattle.agc2.specs.declared.settings.Agc2PredictorConfig.{Agc2PredictorConfig}
@@ -51,3 +54,11 @@ predictorInNumbers c = record {
   «clipping_threshold» = c .«clipping_threshold»;
   «crest_factor_margin» = c .«crest_factor_margin»;
 }
+
+-- a profile as a number: 0 plain, and any other the classroom, which takes less
+abbrev pub profileIf : Bool → Profile
+profileIf true = Classroom
+profileIf false = Plain
+
+abbrev pub profileOf : ℕ → Profile
+profileOf number = profileIf (isSet number)

@@ -7,7 +7,7 @@ ghost use lib.ListN.{getD};
 ghost use Rattle.numbers.specs.Flag.{isSet};
 ghost use Rattle.clipping_predictor_level_buffer.specs.Ring.{storedSays, storedAt};
 ghost use Rattle.clipping_predictor_level_buffer.specs.Metrics.{metricsSays};
-ghost use Rattle.input_volume_controller.specs.Controller.{Good, viewOf, basePredictor};
+ghost use Rattle.input_volume_controller.specs.Controller.{Good, viewOf};
 ghost use Rattle.input_volume_controller.specs.Control.{controlOf};
 ghost use Rattle.input_volume_controller.specs.Control.{Good as GoodControl};
 ghost use Rattle.input_volume_controller.specs.Limits.{plainLimits, spotterLimits};
@@ -15,7 +15,7 @@ ghost use Rattle.input_volume_controller.specs.Plain.{wholeControl};
 ghost use Rattle.input_volume_controller.specs.Reply.{done};
 ghost use Rattle.input_volume_controller.specs.Calls.{initialise, captureSwitch, ControlDoes};
 ghost use Rattle.input_volume_controller.specs.ChannelMetrics.{channelMetrics};
-ghost use Rattle.agc2.specs.Settings.{configOf, predictorConfigOf};
+ghost use Rattle.agc2.specs.Settings.{configOf, predictorConfigOf, profileOf};
 ghost use Rattle.agc2.specs.Answers.{recordOf, metricsOf, speechLevelOf};
 ghost use Rattle.agc2.specs.Whole.{wholeOf, besideOf};
 ghost use Rattle.agc2.specs.Calls.{CreatedIn, CreatedWith, CreatedOf, AnalyzedGivenOf, AnalyzedOf, AnalyzedEachOf, RecommendedOf};
@@ -32,7 +32,6 @@ use input_volume_controller::plain::plain_control;
 use input_volume_controller::plain::plain_predictor;
 use input_volume_controller::plain::whole_control;
 use input_volume_controller::plain::whole_predictor;
-use mono_input_volume_controller::profile::Profile;
 
 pub mod answers;
 mod given;
@@ -70,17 +69,18 @@ fn beside(refusal: u32, near: u32, c: InputVolumeController) -> Agc2Controller
     }
 }
 
-// Within a profile, with any predictor. Every making comes here.
-fn created(
-    profile: Profile,
+// Within a profile, 0 for everybody and any other number for group teaching, with any predictor: causes 1 to 6, then, with the predictor off too, 7, 14 and 15, and then 19. Every making comes here.
+#[no_mangle]
+pub extern "C" fn agc2_new_in_profile_by_value(
+    profile: u32,
     num_capture_channels: i32,
     config: Agc2Config,
     predictor: Agc2PredictorConfig,
 ) -> Agc2Controller
-    ensures { λ r. ⌜ CreatedIn profile «num_capture_channels» (configOf config) (predictorConfigOf predictor) r ⌝ }
+    ensures { λ r. ⌜ CreatedIn (profileOf profile) «num_capture_channels» (configOf config) (predictorConfigOf predictor) r ⌝ }
 {
     let made = InputVolumeController::in_profile(
-        profile,
+        settings::profile_of(profile),
         num_capture_channels,
         settings::config_of(config),
         settings::predictor_config_of(predictor),
@@ -90,7 +90,7 @@ fn created(
     beside(answers::outcome_number(answer), 0, controller)
 }
 
-// With any predictor: causes 1 to 6, and then, with the predictor off too, 7, 14 and 15.
+// For everybody, with any predictor: causes 1 to 6, and then, with the predictor off too, 7, 14 and 15.
 #[no_mangle]
 pub extern "C" fn agc2_new_with_predictor_by_value(
     num_capture_channels: i32,
@@ -99,44 +99,15 @@ pub extern "C" fn agc2_new_with_predictor_by_value(
 ) -> Agc2Controller
     ensures { λ r. ⌜ CreatedWith «num_capture_channels» (configOf config) (predictorConfigOf predictor) r ⌝ }
 {
-    created(Profile::Plain, num_capture_channels, config, predictor)
+    agc2_new_in_profile_by_value(0, num_capture_channels, config, predictor)
 }
 
-// With the base's predictor: causes 1 to 6.
+// For everybody, with the base's predictor: causes 1 to 6.
 #[no_mangle]
 pub extern "C" fn agc2_new_by_value(num_capture_channels: i32, config: Agc2Config) -> Agc2Controller
     ensures { λ r. ⌜ CreatedOf «num_capture_channels» (configOf config) r ⌝ }
 {
-    created(
-        Profile::Plain,
-        num_capture_channels,
-        config,
-        settings::agc2_default_predictor_config(),
-    )
-}
-
-// For group teaching, with any predictor: causes 1 to 6, 7, 14 and 15, and then 19.
-#[no_mangle]
-pub extern "C" fn agc2_new_classroom_with_predictor_by_value(
-    num_capture_channels: i32,
-    config: Agc2Config,
-    predictor: Agc2PredictorConfig,
-) -> Agc2Controller
-    ensures { λ r. ⌜ CreatedIn Profile.Classroom «num_capture_channels» (configOf config) (predictorConfigOf predictor) r ⌝ }
-{
-    created(Profile::Classroom, num_capture_channels, config, predictor)
-}
-
-// For group teaching, with the base's predictor: causes 1 to 6, and then 19.
-#[no_mangle]
-pub extern "C" fn agc2_new_classroom_by_value(
-    num_capture_channels: i32,
-    config: Agc2Config,
-) -> Agc2Controller
-    ensures { λ r. ⌜ CreatedIn Profile.Classroom «num_capture_channels» (configOf config) basePredictor r ⌝ }
-{
-    created(
-        Profile::Classroom,
+    agc2_new_with_predictor_by_value(
         num_capture_channels,
         config,
         settings::agc2_default_predictor_config(),

@@ -2,11 +2,12 @@
 ghost use mathlib.Core.Path.{_≡_};
 ghost use Rattle.mono_input_volume_controller.specs.Config.{defaults};
 ghost use Rattle.input_volume_controller.specs.Controller.{basePredictor};
-ghost use Rattle.agc2.specs.Settings.{configOf, inNumbers, predictorConfigOf, predictorInNumbers};
+ghost use Rattle.agc2.specs.Settings.{configOf, inNumbers, predictorConfigOf, predictorInNumbers, profileOf};
 use clipping_predictor::settings::ClippingPredictorConfig;
 use input_volume_controller::plain::mode_number;
 use input_volume_controller::plain::mode_of;
 use mono_input_volume_controller::config::Config;
+use mono_input_volume_controller::profile::Profile;
 use numbers::flag::flag_of;
 use numbers::flag::is_set;
 
@@ -107,6 +108,16 @@ fn predictor_in_numbers(c: ClippingPredictorConfig) -> Agc2PredictorConfig
         clipping_threshold: c.clipping_threshold,
         crest_factor_margin: c.crest_factor_margin,
     }
+}
+
+// For everybody at 0, and for group teaching at any other number.
+pub fn profile_of(number: u32) -> Profile
+    ensures { λ r. ⌜ r ≡ profileOf number ⌝ }
+{
+    if is_set(number) {
+        return Profile::Classroom;
+    }
+    Profile::Plain
 }
 
 // The base's predictor, which `agc2_new_by_value` takes.

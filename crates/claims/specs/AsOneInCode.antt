@@ -47,7 +47,7 @@ pub record AsOneInCode : Type 0 where
 
 -- ---- the static library
 
--- the same of the exported makings, `agc2_new_by_value`, `agc2_new_with_predictor_by_value`, `agc2_new_classroom_by_value` and `agc2_new_classroom_with_predictor_by_value`, and of the exported calls
+-- the same of `agc2_new_in_profile_by_value`, of `agc2_new_with_predictor_by_value` and `agc2_new_by_value`, which are it within the plain profile, and of the exported calls
 pub record HasLibraryPast (c : Agc2Controller) : Type 0 where
   pub profile : Profile
   pub channels : ℤ

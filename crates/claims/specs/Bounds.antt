@@ -1,7 +1,7 @@
--- Bounds. Document 01: "With capture on and an applied volume above 0, every recommendation lies from min_input_volume to 255." And every volume that is answered is from 0 to 255.
--- Of a set the lowest is the applied volume (`LowestIsApplied`). It reaches the code by the contracts of `InputVolumeController::{new, with_predictor, classroom, classroom_with_predictor, in_profile, analyze_input_audio, analyze_input_audio_each,
--- spotter_analyze_input_audio, spotter_analyze_input_audio_each, recommend_input_volume, initialize, handle_capture_output_used_change}`: what the makings hand back is `makingIn` (`CreatedOf`, `CreatedWith`, `CreatedIn`),
--- each other call one step of the definition, and its reply (`Does`), so a run of the functions is a run of `after` (Run.antt). Definitions only.
+-- Bounds. Document 01: "With capture on and an applied volume above 0, every recommendation lies from min_input_volume to 255." And every volume that is answered is from 0 to 255. Of a set the lowest is the
+-- applied volume (`LowestIsApplied`). It reaches the code by the contracts of `InputVolumeController::{new, with_predictor, classroom, classroom_with_predictor, in_profile, analyze_input_audio,
+-- analyze_input_audio_each, spotter_analyze_input_audio, spotter_analyze_input_audio_each, recommend_input_volume, initialize, handle_capture_output_used_change}`: what the makings hand back is `makingIn`
+-- (`CreatedOf`, `CreatedWith`, `CreatedIn`), each other call one step of the definition, and its reply (`Does`), so a run of the functions is a run of `after` (Run.antt). Definitions only.
 use mathlib.Core.Path.{_≡_}
 use mathlib.Core.Bool.{true}
 use mathlib.Core.List.{List}

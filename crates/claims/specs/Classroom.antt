@@ -61,7 +61,7 @@ pub record ClassroomKeepsMinimum : Type 0 where
 abbrev pub levelAt : ℕ → Config
 levelAt level = defaultsBut (pos level) (defaults .«clipped_ratio_threshold») (defaults .«clipped_wait_frames»)
 
--- a clipped frame has moved channel 0 of a controller with these settings off its applied volume and to this one
+-- after some calls on a controller of one channel with these settings, an accepted frame has moved it off its applied volume and to this one
 pub record MovedTo (profile : Profile) (config : Config) (own : ℕ) : Type 0 where
   pub made : makingIn profile (pos 1) config basePredictor .answer ≡ Accepted
   pub calls : List Call

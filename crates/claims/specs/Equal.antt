@@ -1,8 +1,8 @@
 -- All channels as one. Document 02 (xiii): "after any sequence of accepted and refused calls all channel states are equal and the controlling channel is 0, for every channel count at once", and (xiv): this
 -- holds "where every set accepted so far had equal volumes". What the replies depend on is the second half (Depends.antt).
--- It reaches the code by the contracts of `InputVolumeController::{new, with_predictor, classroom, classroom_with_predictor, in_profile, analyze_input_audio, analyze_input_audio_each, spotter_analyze_input_audio,
--- spotter_analyze_input_audio_each, recommend_input_volume, initialize, handle_capture_output_used_change}`: the first five hand back a fresh controller (`CreatedOf`, `CreatedWith`, `CreatedIn`), each other one step of the definition (`Does`), so a run of the
--- functions is a run of `after` (Run.antt); `AsOneInCode` and `AsOneInLibrary` say so. Definitions only.
+-- It reaches the code by the contracts of `InputVolumeController::{new, with_predictor, classroom, classroom_with_predictor, in_profile, analyze_input_audio, analyze_input_audio_each,
+-- spotter_analyze_input_audio, spotter_analyze_input_audio_each, recommend_input_volume, initialize, handle_capture_output_used_change}`: the first five hand back a fresh controller (`CreatedOf`,
+-- `CreatedWith`, `CreatedIn`), each other one step of the definition (`Does`), so a run of the functions is a run of `after` (Run.antt); `AsOneInCode` and `AsOneInLibrary` say so. Definitions only.
 use mathlib.Core.Path.{_≡_}
 use mathlib.Core.List.{List}
 use Prim.Native.Nat.{ℕ}

@@ -98,8 +98,8 @@ pub record MadeAs (profile : Profile) (channels : ℤ) (config : Config) (predic
   pub had : MadeAndHad profile channels config predictor calls heard (wholeOf e)
   pub numbers : all ≡ allInNumbers calls heard
 
--- THE CLAIM; `CreatedIn` is what the contract of `agc2_new_classroom_with_predictor_by_value` says and, at the plain profile, that of `agc2_new_with_predictor_by_value`; at the base's predictor they are those of
--- `agc2_new_classroom_by_value` and `agc2_new_by_value`; 0 is their word for an accepted making
+-- THE CLAIM; `CreatedIn` is what the contract of `agc2_new_in_profile_by_value` says, within the plain profile that of `agc2_new_with_predictor_by_value`, and with the base's predictor that of
+-- `agc2_new_by_value`; 0 is their word for an accepted making
 pub record LibraryRunsAreRuns : Type 0 where
   pub runs : (c : Agc2Controller) (calls : List Call) (all : List Heard) (e : Agc2Controller) → Good (wholeOf c) → LibraryRun c calls all e → RunsAs c calls all e
   pub made : (profile : Profile) (channels : ℤ) (config : Config) (predictor : ClippingPredictorConfig) (c : Agc2Controller) (calls : List Call) (all : List Heard) (e : Agc2Controller)

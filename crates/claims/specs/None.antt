@@ -1,7 +1,7 @@
--- None. Document 01: 'The recommendation is "none" exactly if no frame was accepted since the making, the last initialise, or the last recommendation with capture on, whichever came latest.'
--- It reaches the code by the contracts of `InputVolumeController::{new, with_predictor, classroom, classroom_with_predictor, in_profile, analyze_input_audio, analyze_input_audio_each, spotter_analyze_input_audio,
--- spotter_analyze_input_audio_each, recommend_input_volume, initialize, handle_capture_output_used_change}`: the first five hand back a fresh controller (`CreatedOf`, `CreatedWith`, `CreatedIn`), each other one step of the definition, and its reply (`Does`),
--- so a run of the functions is a run of `after` (Run.antt). Definitions only.
+-- None. Document 01: 'The recommendation is "none" exactly if no frame was accepted since the making, the last initialise, or the last recommendation with capture on, whichever came latest.' It reaches the
+-- code by the contracts of `InputVolumeController::{new, with_predictor, classroom, classroom_with_predictor, in_profile, analyze_input_audio, analyze_input_audio_each, spotter_analyze_input_audio,
+-- spotter_analyze_input_audio_each, recommend_input_volume, initialize, handle_capture_output_used_change}`: the first five hand back a fresh controller (`CreatedOf`, `CreatedWith`, `CreatedIn`), each other
+-- one step of the definition, and its reply (`Does`), so a run of the functions is a run of `after` (Run.antt). Definitions only.
 use mathlib.Core.Path.{_≡_}
 use mathlib.Core.Bool.{Bool, true, false, not, _&&_, _||_}
 use mathlib.Core.Logic.{_↔_}

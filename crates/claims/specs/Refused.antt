@@ -1,8 +1,9 @@
--- A refused call changes nothing, for every call, state and input, and the number is the first cause in the table's order that holds. Document 01: "A call tests the causes about its own
--- inputs .. in rising number, and returns the first that holds. On 1 to 7 nothing is made; 8, 9, .. leave the whole state as before"; document 02 (ii) and (iv) put 14 and 15 behind 7, and (xiv)
--- tests 20, then 8, then 9 of a frame, (viii) 18 last, and of a making within the classroom profile (xii) 19 last. It reaches the code by the contracts of `InputVolumeController::{new, with_predictor, classroom, classroom_with_predictor, in_profile, analyze_input_audio, analyze_input_audio_each,
--- spotter_analyze_input_audio, spotter_analyze_input_audio_each, recommend_input_volume, initialize, handle_capture_output_used_change}`: what the makings hand back is `makingIn` (`CreatedIn`; `CreatedOf`
--- and `CreatedWith` are it within the plain profile), each other call one `step` (`Does`); and a refused frame hands back the very struct (`AnalyzedEachOf`, `same`), its unused places too. Definitions only.
+-- A refused call changes nothing, for every call, state and input, and the number is the first cause in the table's order that holds. Document 01: "A call tests the causes about its own inputs .. in rising
+-- number, and returns the first that holds. On 1 to 7 nothing is made; 8, 9, .. leave the whole state as before"; document 02 (ii) and (iv) put 14 and 15 behind 7, and (xiv) tests 20, then 8, then 9 of a
+-- frame, (viii) 18 last, and of a making within the classroom profile (xii) 19 last. It reaches the code by the contracts of `InputVolumeController::{new, with_predictor, classroom, classroom_with_predictor,
+-- in_profile, analyze_input_audio, analyze_input_audio_each, spotter_analyze_input_audio, spotter_analyze_input_audio_each, recommend_input_volume, initialize, handle_capture_output_used_change}`: what the
+-- makings hand back is `makingIn` (`CreatedIn`; `CreatedOf` and `CreatedWith` are it within the plain profile), each other call one `step` (`Does`); and a refused frame hands back the very struct
+-- (`AnalyzedEachOf`, `same`), its unused places too. Definitions only.
 use mathlib.Core.Path.{_≡_}
 use mathlib.Core.Option.{Option, none, some}
 use Prim.Native.Nat.{ℕ}

@@ -1,5 +1,6 @@
--- `agc2_new_with_predictor_by_value` meets its contract: it is the plain making. Assumes nothing.
+-- `agc2_new_with_predictor_by_value` meets its contract: it is the making within the plain profile. Assumes nothing.
 use mathlib.Core.Path.{refl}
+use Rattle.numbers.specs.Flag.{isSet}
 use Rattle.mono_input_volume_controller.specs.declared.profile.Profile.the-variants.{Plain}
 use Rattle.input_volume_controller.specs.Controller.{Making}
 use Rattle.input_volume_controller.proofs.Profiles.{made-at}
@@ -8,13 +9,15 @@ use borrow.Author.Needs.{needs}
 use Rattle.agc2.proofs.agc2_new_with_predictor_by_value.Statement.{statement}
 use Rattle.agc2.proofs.agc2_new_with_predictor_by_value.Tie as tie
 
-created-requires : tie.Need-created-requires
-created-requires c κs = search needs
+agc2-new-in-profile-by-value-requires : tie.Need-agc2-new-in-profile-by-value-requires
+agc2-new-in-profile-by-value-requires c κs = search needs
 
 returns : tie.Need-returns
+unfolding isSet
 returns c =
     let s = c .before in
-    made-at (λ (m : Making). CreatedAs m (c .created .result)) Plain (s .args .num-capture-channels) (s .fits .num-capture-channels .sfits) refl refl (c .created .ensures)
+    made-at (λ (m : Making). CreatedAs m (c .agc2-new-in-profile-by-value .result)) Plain (s .args .num-capture-channels) (s .fits .num-capture-channels .sfits) refl refl
+    (c .agc2-new-in-profile-by-value .ensures)
 
 pub agc2-new-with-predictor-by-value-spec : {M : Type 1} → statement M
-agc2-new-with-predictor-by-value-spec = tie.close (tie.spec created-requires returns)
+agc2-new-with-predictor-by-value-spec = tie.close (tie.spec agc2-new-in-profile-by-value-requires returns)

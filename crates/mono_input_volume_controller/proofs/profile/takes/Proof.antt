@@ -16,7 +16,7 @@ in-classroom-requires : tie.Need-in-classroom-requires
 in-classroom-requires c κs = search needs
 
 returns : tie.Need-returns
-returns c = search needs
+returns c = sym (ap (λ (p : Profile). takes p (c .before .before .args .config)) (c .enum-told .given .1))
 
 returns-2 : tie.Need-returns-2
 returns-2 c = c .in-classroom .ensures ∙ sym (ap (λ (p : Profile). takes p (c .before .before .before .args .config)) (c .before .enum-told2 .given .1))
