@@ -6,8 +6,9 @@ usage: calls.py ORACLE REPLAY [COUNT [SEED]]
 ORACLE is the driver over the unchanged Rust (`probe` of rust/), REPLAY the program of crates/replay. Both get the same commands: controllers of one to eight
 channels with settings from all of the table's domain, frames of 1 to 480 samples a channel with infinite and not-a-number samples among them, recommendations,
 initialises and capture switches. Half of the frames go to the port as a set of equal volumes (`V`, document 02 (xiv)), where the Rust gets its one volume; of the others, half of those that have at
-most 2 channels and 160 samples each go through the word spotter's entry (`W`, document 02 (viii)), where the Rust gets the same frame. Frames, sets and settings that are refused go to the port alone:
-the refusal must be the table's, a set's 20 before 8 before 9, the spotter's 8 before 9 before 18, and the state must stay.
+most 2 channels and 160 samples each go through the word spotter's entry (`W`, document 02 (viii)), where the Rust gets the same frame. Many settings lie within the classroom profile (document 02 (xii)),
+and half of these controllers the port makes through it (`O`). Frames, sets and settings that are refused go to the port alone: the refusal must be the table's, a set's 20 before 8 before 9, the spotter's
+8 before 9 before 18, the profile's 1 to 6 before 19, and the state must stay.
 After each call the two states must be equal: the volume, the pending volume, the capture switch, the count since clipping, the controlling channel, every figure
 of every channel, and each ring's count and newest record; all records of all rings from time to time. The Rust's records have no count of clipped samples: the port's
 are left out there, and must be those of the words (counts.py). A marked call may differ; the controller is then left, since
@@ -21,6 +22,7 @@ import sys
 import tempfile
 
 from counts import Counts, without
+from levels import value
 
 PIECE = 60_000  # calls for one run of the two programs
 
@@ -57,6 +59,37 @@ def refused_settings(rnd, made):
     for _, place, values in chosen:
         made[place] = rnd.choice(values)
     return made, min(cause for cause, _, _ in chosen)
+
+
+def in_classroom(fields):
+    """Whether the settings of a command `N` lie within the classroom profile, from the words of document 02 (xii). A threshold that is not a number is in no order."""
+    least, floor, wait, on, upper, lower, update = (int(fields[k]) for k in (1, 2, 5, 6, 7, 8, 9))
+    ratio = value(int(fields[4], 16))
+    return all([on == 1, 20 <= least <= 70, floor >= least, lower <= upper, wait >= 100 and update >= 100, 0 <= ratio <= 1])
+
+
+def classroom_settings(rnd):
+    """Settings within the classroom profile, each often at an edge of it."""
+    def either(*xs):
+        return rnd.choice(xs)
+    channels, made = settings(rnd)
+    least, upper = either(20, 70, rnd.randint(20, 70)), made[7]
+    made[1], made[2] = least, either(least, least, 70, 255, rnd.randint(least, 255))
+    made[4] = either("00000000", "80000000", "3f800000", "00000001", "3f7fffff", "3dcccccd", f"{bits(rnd.random()):08x}", f"{bits(rnd.random()):08x}")
+    made[5], made[9] = (either(100, 100, 101, 130, 300, rnd.randint(100, 65535)) for _ in range(2))
+    made[6], made[8] = 1, either(upper, -90, rnd.randint(-90, upper))
+    return channels, made
+
+
+def outside_classroom(rnd, made):
+    """Settings within the profile, with one or more of its conditions broken, each often by one step."""
+    made, upper = list(made), rnd.randint(-90, 29)
+    faults = [{6: 0}, {1: rnd.choice([0, 19, 71, 255])}, {2: rnd.choice([0, made[1] - 1])}, {7: upper, 8: rnd.choice([upper + 1, 30])}, {5: rnd.choice([0, 99])}, {9: rnd.choice([0, 99])},
+              {4: rnd.choice(["80000001", "bf800000", "3f800001", "7f800000", "ff800000", "7fc00000", "ffc00001"])}]
+    for fault in rnd.sample(faults, rnd.choice([1, 1, 2, 3])):
+        for place, broken in fault.items():
+            made[place] = broken
+    return made
 
 
 def part(rnd, size, loud):
@@ -118,6 +151,11 @@ def as_spotters(command, channels):
     return f"W {volume} {len(floats) // 8 // channels} {floats}"
 
 
+def some_spotters(rnd, command, channels):
+    """A frame `A`; if it fits the spotter's entry, half of them go through it."""
+    return as_spotters(command, channels) if fits_spotter(command, channels) and rnd.random() < 0.5 else command
+
+
 def over_limits(rnd, channels):
     """A frame through the spotter's entry that nothing is wrong with but its size: the port's answer is 18."""
     size = rnd.choice([161, 161, 162, 200, 480] + [1, 2, 160] * 3 * (channels > SPOTTER_CHANNELS))
@@ -136,33 +174,49 @@ def refused_spotters(rnd, channels):
     return f"W {volume} {size} {'00000000' * lent}", cause
 
 
+def refused_classroom(rnd, _):
+    """A making within the classroom profile that is refused, and the number: whatever is wrong by the profile, the table's faults come first."""
+    wrong = rnd.choice(["table", "both", "profile", "profile", "profile"])
+    (_, made), cause = classroom_settings(rnd), 19
+    if wrong != "table":
+        made = outside_classroom(rnd, made)
+    if wrong != "profile":
+        made, cause = refused_settings(rnd, made)
+    return "O " + " ".join(map(str, made)), cause
+
+
 def with_forms(rnd, calls):
-    """The calls with what goes to the Rust beside each, or None: half of the frames as sets of equal volumes, some through the spotter's entry, and refused ones of both forms between them."""
+    """The calls with what goes to the Rust beside each, or None: half of the frames as sets of equal volumes, some through the spotter's entry, half of the controllers that may be made through the
+    classroom profile so, and refused ones of each form between them, where the next call shows whether the state stayed."""
     channels = 1
     for command, cause in calls:
-        if cause is None and command[0] == "N":
+        makes = cause is None and command[0] == "N"
+        if makes:
             channels = int(command.split(" ")[1])
-        if rnd.random() < 0.03 and command[0] != "N":
-            yield (*rnd.choice([refused_set, refused_spotters])(rnd, channels), None)
-        if command[0] == "A" and rnd.random() < 0.5:
+        if rnd.random() < 0.045 and command[0] != "N":
+            yield (*rnd.choice([refused_set, refused_spotters, refused_classroom])(rnd, channels), None)
+        if makes and in_classroom(command.split(" ")[1:]) and rnd.random() < 0.5:
+            yield "O" + command[1:], cause, command
+        elif command[0] == "A" and rnd.random() < 0.5:
             volume = int(command.split(" ")[1])
             yield as_set(command, channels, [volume] * channels), cause, command
-        elif command[0] == "A" and fits_spotter(command, channels) and rnd.random() < 0.5:
-            yield as_spotters(command, channels), cause, command
+        elif command[0] == "A":
+            yield some_spotters(rnd, command, channels), cause, command
         else:
             yield command, cause, command if cause is None else None
 
 
 def session(rnd):
-    """A controller and some calls on it: pairs of a command and the refusal's number, if the table refuses it."""
-    channels, made = settings(rnd)
+    """A controller and some calls on it: pairs of a command and the refusal's number, if the table refuses it. The waits of the classroom profile are at least 100, and end only in a long session."""
+    classroom = rnd.random() < 0.25
+    channels, made = (classroom_settings if classroom else settings)(rnd)
     out = []
     if rnd.random() < 0.3:
         bad, cause = refused_settings(rnd, made)
         out.append(("N " + " ".join(map(str, bad)), cause))
     out.append(("N " + " ".join(map(str, made)), None))
     volume = rnd.randint(0, 255)
-    for _ in range(rnd.choice([20, 60, 150])):
+    for _ in range(rnd.choice([20, 60, 150] + [400] * classroom)):
         kind = rnd.random()
         if kind < 0.50:
             if rnd.random() < 0.15:
@@ -205,7 +259,9 @@ def normal(text):
 
 
 def port_state(answer):
-    """The port writes every channel; the driver the first, and whether all are equal."""
+    """The port writes every channel; the driver the first, and whether all are equal. A refused making has no state behind it."""
+    if " r=" not in answer:
+        return answer
     head, rings = answer.split(" r=")
     words = head.split(" m=")
     equal = len(set(words[1:])) == 1
@@ -217,8 +273,8 @@ def main():
     wanted = int(sys.argv[3]) if len(sys.argv) > 3 else 2_000_000
     seed = int(sys.argv[4]) if len(sys.argv) > 4 else 1
     rnd, forms = random.Random(seed), random.Random(seed + 1)
-    counts = dict(calls=0, controllers=0, frames=0, sets=0, spotters=0, recommendations=0, none=0, initialises=0, switches=0, dumps=0, refused=0, refused_sets=0, refused_spotters=0, over_limits=0, statistics_panics=0, marked=0, marked_apart=0, left=0, differ=0)
-    names = dict(A="frames", V="frames", W="frames", R="recommendations", I="initialises", C="switches", N="controllers")
+    counts = dict(calls=0, controllers=0, classrooms=0, frames=0, sets=0, spotters=0, recommendations=0, none=0, initialises=0, switches=0, dumps=0, refused=0, refused_sets=0, refused_spotters=0, over_limits=0, refused_classrooms=0, outside_profile=0, statistics_panics=0, marked=0, marked_apart=0, left=0, differ=0)
+    names = dict(A="frames", V="frames", W="frames", R="recommendations", I="initialises", C="switches", N="controllers", O="controllers")
     while counts["calls"] < wanted:
         commands = []
         while len(commands) < PIECE:
@@ -232,7 +288,7 @@ def main():
             by_words = counted.put(command, without(port))
             rust = normal(next(theirs)) if cause is None else None
             kind = command[0]
-            apart = apart and kind != "N"
+            apart = apart and (cause is not None or kind not in "NO")
             if apart:
                 counts["left"] += 1
                 continue
@@ -242,9 +298,12 @@ def main():
                 counts["refused_sets"] += kind == "V"
                 counts["refused_spotters"] += kind == "W"
                 counts["over_limits"] += cause == 18
-                fine = port == f"! {cause}" if kind == "N" else port_state(normal(port)) == f"! {cause} {before}"
+                counts["refused_classrooms"] += kind == "O"
+                counts["outside_profile"] += cause == 19
+                fine = port == f"! {cause}" if kind in "NO" else port_state(normal(port)) == f"! {cause} {before}"
             else:
                 counts[names.get(kind, "dumps")] += 1
+                counts["classrooms"] += kind == "O"
                 counts["sets"] += kind == "V"
                 counts["spotters"] += kind == "W"
                 near = port.endswith(" n")

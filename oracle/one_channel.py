@@ -15,7 +15,7 @@ import os
 import random
 import sys
 
-from calls import as_set, as_spotters, fits_spotter, normal, over_limits, port_state, run, settings
+from calls import as_set, normal, over_limits, port_state, run, settings, some_spotters
 from two_pasts import calls
 
 PASTS = 80
@@ -37,7 +37,7 @@ def formed(rnd, channels, volume, call):
     """A frame for the port, in one of its forms."""
     if rnd.random() < 0.5:
         return as_set(call, channels, [volume] * channels)
-    return as_spotters(call, channels) if fits_spotter(call, channels) and rnd.random() < 0.5 else call
+    return some_spotters(rnd, call, channels)
 
 
 def past(rnd, channels, port):

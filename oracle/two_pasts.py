@@ -8,15 +8,18 @@ with recommendations and initialises between them; an initialise; a quiet frame 
 apart are to be expected. The port's records have their counts of clipped samples, which are compared too (document 02 (xi)). WORDS are for the program of crates/replay alone. With `modes` each pair
 has a predictor of its own, of any mode, on or off, and the lead-in is that of document 02 (iv). With `sets` most frames, in the pasts, in the lead-in and after it, have a volume for each channel
 (document 02 (xiv)), and the closing quiet frame has positive volumes that differ. With `zero` as well one of these is 0, where there are several channels, and pairs that are told apart are to be
-expected. With `spotter` half of the frames that fit it go through the word spotter's entry (document 02 (viii)), and frames that do not, which it refuses, come between the calls everywhere. Prints how many calls after the lead-in were compared, and how many pairs were told apart, with `modes` of each mode; exits with 1 if there is one that is not to be expected.
+expected. With `spotter` half of the frames that fit it go through the word spotter's entry (document 02 (viii)), and frames that do not, which it refuses, come between the calls everywhere. With
+`classroom` the controllers are made through the classroom profile (document 02 (xii)), with any clipped-ratio threshold that it takes; with `modes`, for which `O` has no fields, by `K`, from settings
+within the profile. Prints how many calls after the lead-in were compared, and how many pairs were told apart, with `modes` of each mode; exits with 1 if there is one that is not to be expected.
 """
 import random
 import struct
 import sys
 
-from calls import as_set, as_spotters, bits, fits_spotter, frame, normal, over_limits, run, settings
+from calls import as_set, bits, classroom_settings, frame, normal, over_limits, run, settings, some_spotters
 
 WAIT = 5  # the place of clipped_wait_frames in the command N
+SHORT_WAITS = [100, 100, 101, 130]  # of those that the classroom profile takes
 
 
 class Base:
@@ -27,6 +30,11 @@ class Base:
 
     def frames(self, wait):
         return max(14, wait + 4)
+
+
+class Classroom(Base):
+    """The base's predictor, in a controller that is made through the classroom profile."""
+    command = "O"
 
 
 def rounded(x):
@@ -113,15 +121,32 @@ def narrowed(rnd, channels, commands):
     for c in commands:
         if rnd.random() < 0.1:
             out.append(over_limits(rnd, channels))
-        out.append(as_spotters(c, channels) if c[0] == "A" and fits_spotter(c, channels) and rnd.random() < 0.5 else c)
+        out.append(some_spotters(rnd, c, channels) if c[0] == "A" else c)
     return out
+
+
+def drawn_settings(rnd, words):
+    """The settings of a pair. The lead-in is as long as the clipping wait, which is a short one."""
+    if "classroom" in words:
+        channels, made = classroom_settings(rnd)
+        made[WAIT] = rnd.choice(SHORT_WAITS)
+    else:
+        channels, made = settings(rnd)
+        made[4] = rnd.choice(["3dcccccd", "00000000", "3f000000"])  # a clipped ratio of zero or more
+        made[WAIT] = rnd.choice([0, 1, 3, 5, 12, 30])
+    return channels, made
+
+
+def predictor_of(rnd, words):
+    """The predictor of a pair, and the line that makes a controller with it."""
+    if "modes" in words:
+        return Any(rnd)
+    return Classroom() if "classroom" in words else Base()
 
 
 def pair(rnd, fewer, predictor, words):
     """The commands of a pair, and how many of the last of each half are compared."""
-    channels, made = settings(rnd)
-    made[4] = rnd.choice(["3dcccccd", "00000000", "3f000000"])  # a clipped ratio of zero or more
-    made[WAIT] = rnd.choice([0, 1, 3, 5, 12, 30])
+    channels, made = drawn_settings(rnd, words)
     before = lead_in(rnd, channels, predictor.frames(made[WAIT]) - fewer, predictor)
     after = [c for call in calls(rnd, channels, 30) for c in ([call, "D"] if rnd.random() < 0.3 else [call])]
     making = " ".join(map(str, [predictor.command, *made, *predictor.fields]))
@@ -150,9 +175,11 @@ def main():
     rnd = random.Random(seed)
     compared, apart, of_mode = 0, [0] * 3, [0] * 3
     for _ in range(pairs):
-        predictor = Any(rnd) if "modes" in words else Base()
+        predictor = predictor_of(rnd, words)
         halves, count = pair(rnd, fewer, predictor, words)
-        answers = [[answer(normal(line)) for line in run(program, half)[-count:]] for half in halves]
+        said = [run(program, half) for half in halves]
+        assert all(answer(lines[0]).startswith("ok") for lines in said), halves[0][0]  # a refused making would leave both halves the same controller
+        answers = [[answer(normal(line)) for line in lines[-count:]] for lines in said]
         assert len(answers[0]) == len(answers[1]) == count
         compared += count
         of_mode[predictor.mode] += 1
