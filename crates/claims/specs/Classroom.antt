@@ -1,7 +1,7 @@
 -- The classroom. Document 02 (xii): "There, after any calls, a clipping frame that moves a channel's own volume off its applied volume never moves it below min_input_volume, before the usual minimum is applied to all
 -- channels." A channel's own volume is the recommended volume of its own state after the frame: the controller's volume, which the usual minimum raises, is another. Its applied volume is the one that this frame gave
--- it. Said of every accepted frame, through any entry and with any set: one in which clipping is neither seen nor predicted moves no channel (`EachTakesItsOwn`). What two pasts within the classroom need is
--- `TwoPastsInClassroom` (Made.antt), and which settings are refused `RefusedCalls`. It reaches the static library by `LibraryRunsAreRuns`. Definitions only.
+-- it. Said of every accepted frame, a clipping one or not, through any entry and with any set: a frame that does not lower the channels leaves each with its applied volume (`EachTook`), and so moves none. What two
+-- pasts within the classroom need is `TwoPastsInClassroom` (Made.antt), and which settings are refused `RefusedCalls`. It reaches the static library by `LibraryRunsAreRuns`. Definitions only.
 use mathlib.Core.Path.{_≡_}
 use mathlib.Core.Bool.{Bool}
 use mathlib.Core.List.{List}
