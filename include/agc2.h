@@ -154,7 +154,7 @@ typedef struct agc2_layout_of {
 
 agc2_config agc2_default_config(void);
 agc2_predictor_config agc2_default_predictor_config(void);
-agc2_layout_of agc2_layout(void);
+agc2_layout_of agc2_layout_1(void);
 /* Beside the number of a refusal stands a working controller of one channel with the default settings. */
 agc2_controller agc2_new_by_value(int32_t num_capture_channels, agc2_config config);
 agc2_controller agc2_new_with_predictor_by_value(int32_t num_capture_channels, agc2_config config, agc2_predictor_config predictor);

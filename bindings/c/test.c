@@ -21,7 +21,7 @@ static void check(int holds, const char *what) {
 /* ---- the layout */
 
 static void sizes_are_those_the_archive_states(void) {
-    agc2_layout_of l = agc2_layout();
+    agc2_layout_of l = agc2_layout_1();
     CHECK(l.control_size == sizeof(agc2_control));
     CHECK(l.control_state == offsetof(agc2_control, state));
     CHECK(l.controller_size == sizeof(agc2_controller));

@@ -131,7 +131,7 @@ extern "C" {
     pub fn agc2_stored_record_by_value(controller: Controller, channel: usize, i: usize) -> Record;
     pub fn agc2_compute_partial_metrics_by_value(controller: Controller, channel: usize, delay: i32, num_items: i32) -> Metrics;
     #[cfg(test)]
-    pub fn agc2_layout() -> Layout;
+    pub fn agc2_layout_1() -> Layout;
 }
 
 #[cfg(test)]
@@ -153,7 +153,7 @@ mod tests {
             metrics_size: size_of::<Metrics>() as u32,
         };
         // SAFETY: the function takes nothing and asks for nothing.
-        assert_eq!(unsafe { agc2_layout() }, here);
+        assert_eq!(unsafe { agc2_layout_1() }, here);
         assert_eq!(align_of::<Controller>(), 8);
     }
 

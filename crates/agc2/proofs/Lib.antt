@@ -3,6 +3,7 @@ pub mod Flags
 pub mod Frames
 pub mod Handed
 pub mod InPlace
+pub mod Interleaved
 pub mod OfReference
 pub mod OneVolumeInto
 pub mod PassOn

@@ -5,3 +5,5 @@ pub mod Whole
 pub mod Given
 pub mod Calls
 pub mod Layout
+pub mod Samples
+pub mod Version

@@ -17,7 +17,7 @@ pub struct Agc2Layout {
 }
 
 #[no_mangle]
-pub extern "C" fn agc2_layout() -> Agc2Layout
+pub extern "C" fn agc2_layout_1() -> Agc2Layout
     ensures { λ r. ⌜ r ≡ layout ⌝ }
 {
     Agc2Layout {

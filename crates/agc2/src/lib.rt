@@ -36,7 +36,9 @@ use input_volume_controller::plain::whole_predictor;
 pub mod answers;
 mod given;
 pub mod layout;
+pub mod samples;
 pub mod settings;
+pub mod version;
 
 // The controller that the numbers stand for.
 fn whole(c: Agc2Controller) -> InputVolumeController
