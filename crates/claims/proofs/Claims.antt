@@ -35,6 +35,7 @@ use Rattle.claims.proofs.EachTakesItsOwn.{each-takes-its-own}
 use Rattle.claims.proofs.LowestIsApplied.{lowest-is-applied}
 use Rattle.claims.proofs.Controlling.{controlling-is-lowest}
 use Rattle.claims.proofs.None.{none-exactly}
+use Rattle.claims.proofs.Samples.{samples-are-exact}
 
 pub claims : Claims
 claims = record {
@@ -77,5 +78,6 @@ claims = record {
   short-frames = short-frames;
   classroom-keeps-minimum = classroom-keeps-minimum;
   classroom-is-needed = classroom-is-needed;
+  samples-are-exact = samples-are-exact;
   none = none-exactly;
 }

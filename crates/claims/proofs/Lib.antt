@@ -75,4 +75,5 @@ pub mod Classroom
 pub mod ClassroomNeeded
 pub mod Needed
 pub mod ExampleLines
+pub mod Samples
 pub mod Claims

@@ -32,6 +32,7 @@ use Rattle.claims.specs.Classroom.{ClassroomKeepsMinimum, ClassroomIsNee
 use Rattle.claims.specs.EachTakesItsOwn.{EachTakesItsOwn}
 use Rattle.claims.specs.LowestIsApplied.{LowestIsApplied}
 use Rattle.claims.specs.Controlling.{ControllingIsLowest}
+use Rattle.claims.specs.Samples.{SamplesAreExact}
 use Rattle.claims.specs.None.{NoneExactly}
 
 pub record Claims : Type 0 where
@@ -103,5 +104,7 @@ pub record Claims : Type 0 where
   -- has settings
   pub classroom-keeps-minimum : ClassroomKeepsMinimum
   pub classroom-is-needed : ClassroomIsNeeded
+  -- the library's converters of 16-bit samples and of samples of ±1.0 round nothing
+  pub samples-are-exact : SamplesAreExact
   -- the recommendation is none exactly if no frame was accepted since the latest of making, initialise and recommendation with capture on
   pub none : NoneExactly

@@ -35,4 +35,5 @@ pub mod ShortFrames
 pub mod Classroom
 pub mod Needed
 pub mod ExampleLines
+pub mod Samples
 pub mod Claims
