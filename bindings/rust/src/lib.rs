@@ -7,7 +7,13 @@
 //! A word spotter, which must not pass a large frame by accident, is handed a [`Spotter`] and not the controller.
 //!
 //! A frame is 10 ms of sound, at up to 48 kHz, as floats on the 16-bit scale, -32768 to 32767. Samples from -1.0 to 1.0 are all but silence on it
-//! and never clip.
+//! and never clip. What devices give goes through an entry of its own:
+//!
+//! - interleaved 16-bit samples through [`InputVolumeController::analyze_interleaved_i16`],
+//! - a slice for each channel, as an `AudioBuffer` has them, through [`InputVolumeController::analyze_channels`],
+//! - the same from -1.0 to 1.0 through [`InputVolumeController::analyze_unit_channels`].
+//!
+//! A frame with a volume for each channel, and a spotter's, is first made in a buffer of the caller's, by [`frame_of_interleaved_i16`] or [`frame_of_unit`].
 //!
 //! ```
 //! use agc2::{Config, InputVolumeController, Refusal};
@@ -24,19 +30,23 @@
 //! one, so no safe code can break that. The proofs take floats to work as they do by default, and as Rust does: rounded to nearest, with no
 //! subnormal number flushed to zero.
 //!
-//! The stack that a call needs, as measured: 23 KB for a frame, up to 21 KB for [`InputVolumeController::stored_record`] and
-//! [`InputVolumeController::compute_partial_metrics`] and up to 35 KB for a making that goes into a box (all three in a debug build), 3 KB for any other.
-#![warn(missing_docs)]
+//! The stack that a call needs, as measured: 23 KB for a frame, 39 KB for what devices give, up to 21 KB for [`InputVolumeController::stored_record`] and
+//! [`InputVolumeController::compute_partial_metrics`] and up to 35 KB for a making that goes into a box (all four in a debug build), 3 KB for any other.
+#![no_std]
+#![deny(missing_docs, unsafe_op_in_unsafe_fn)]
+#![warn(clippy::missing_errors_doc, clippy::undocumented_unsafe_blocks)]
 
 mod predictor;
 mod raw;
 mod refusal;
+mod samples;
 mod spotter;
 
-use std::fmt;
+use core::fmt;
 
 pub use predictor::{ClippingPredictorConfig, ClippingPredictorMode};
-pub use refusal::Refusal;
+pub use refusal::{NoRefusal, Refusal};
+pub use samples::{frame_of_interleaved_i16, frame_of_unit};
 pub use spotter::{Spotter, SPOTTER_MAX_CHANNELS, SPOTTER_MAX_SAMPLES_PER_CHANNEL};
 
 /// The most channels that a controller has.
@@ -44,6 +54,15 @@ pub const MAX_CHANNELS: usize = 8;
 
 /// The most samples that a frame has in one channel.
 pub const MAX_SAMPLES_PER_CHANNEL: usize = 480;
+
+/// The version of the library that this crate goes with: 10,000 times the major number, 100 times the minor one, and the patch.
+pub const VERSION: u32 = 10_000;
+
+/// The version of the archive that is linked, in the same way.
+pub fn version() -> u32 {
+    // SAFETY: the function takes nothing and asks for nothing.
+    unsafe { raw::agc2_version() }
+}
 
 /// The settings, as in the original; `target_range_experimental_max_dbfs`, which nothing reads, is left out.
 #[derive(Debug, Clone, Copy, PartialEq)]
@@ -137,13 +156,17 @@ pub struct InputVolumeController {
 }
 
 impl InputVolumeController {
-    /// A controller of 1 to 8 channels, with the original's predictor, [`ClippingPredictorConfig::default`]. Refuses with causes 1 to 6.
+    /// A controller of 1 to 8 channels, with the original's predictor, [`ClippingPredictorConfig::default`].
+    ///
+    /// # Errors
+    ///
+    /// The first that holds of [`Refusal::ChannelCount`], [`Refusal::MinimumVolume`], [`Refusal::ClippedLevelStep`], [`Refusal::WaitFrames`], [`Refusal::TargetRange`] and
+    /// [`Refusal::SpeechThreshold`].
     pub fn new(num_capture_channels: i32, config: Config) -> Result<Self, Refusal> {
         InputVolumeController::with_predictor(num_capture_channels, config, ClippingPredictorConfig::default())
     }
 
-    /// A controller of 1 to 8 channels with a predictor of any mode. Refuses with causes 1 to 6, and then, whether the predictor is on or off, with 7,
-    /// 14 and 15. Whether it is on is said by [`Config::enable_clipping_predictor`].
+    /// A controller of 1 to 8 channels with a predictor of any mode. Whether it is on is said by [`Config::enable_clipping_predictor`].
     ///
     /// ```
     /// use agc2::{ClippingPredictorConfig, ClippingPredictorMode, Config, InputVolumeController, Refusal};
@@ -153,6 +176,11 @@ impl InputVolumeController {
     /// let mut controller = InputVolumeController::with_predictor(1, Config::default(), predictor)?;
     /// # Ok::<(), Refusal>(())
     /// ```
+    ///
+    /// # Errors
+    ///
+    /// Those of [`InputVolumeController::new`], then, whether the predictor is on or off, [`Refusal::PredictorWindows`], [`Refusal::PredictorCapacity`] and
+    /// [`Refusal::PredictorLevels`].
     pub fn with_predictor(num_capture_channels: i32, config: Config, predictor: ClippingPredictorConfig) -> Result<Self, Refusal> {
         InputVolumeController::in_profile(raw::PLAIN, num_capture_channels, config, predictor)
     }
@@ -167,7 +195,7 @@ impl InputVolumeController {
     /// - [`Config::clipped_ratio_threshold`] is 0 to 1, and so a number.
     ///
     /// After any calls, a clipping frame that moves a channel's own volume off the one that is applied to it never moves it below `min_input_volume`, before the usual minimum is
-    /// applied to all channels. Refuses with causes 1 to 6 as [`InputVolumeController::new`] does, then with 19 any other settings; else it is the controller that `new` makes.
+    /// applied to all channels. Else it is the controller that [`InputVolumeController::new`] makes.
     ///
     /// ```
     /// use agc2::{Config, InputVolumeController, Refusal};
@@ -179,17 +207,29 @@ impl InputVolumeController {
     /// assert!(InputVolumeController::new(2, outside).is_ok());
     /// # Ok::<(), Refusal>(())
     /// ```
+    ///
+    /// # Errors
+    ///
+    /// Those of [`InputVolumeController::new`], then [`Refusal::ClassroomProfile`] for any other settings.
     pub fn classroom(num_capture_channels: i32, config: Config) -> Result<Self, Refusal> {
         InputVolumeController::classroom_with_predictor(num_capture_channels, config, ClippingPredictorConfig::default())
     }
 
-    /// The same with a predictor of any mode. Refuses with causes 1 to 6, and then 7, 14 and 15, as [`InputVolumeController::with_predictor`] does, then with 19.
+    /// The same with a predictor of any mode.
+    ///
+    /// # Errors
+    ///
+    /// Those of [`InputVolumeController::with_predictor`], then [`Refusal::ClassroomProfile`].
     pub fn classroom_with_predictor(num_capture_channels: i32, config: Config, predictor: ClippingPredictorConfig) -> Result<Self, Refusal> {
         InputVolumeController::in_profile(raw::CLASSROOM, num_capture_channels, config, predictor)
     }
 
     /// What the archive's making answers within a profile.
     fn in_profile(profile: u32, num_capture_channels: i32, config: Config, predictor: ClippingPredictorConfig) -> Result<Self, Refusal> {
+        // Whoever makes a controller names this function, and so does not link with an archive of another layout, also where nothing is compared.
+        // SAFETY: the function takes nothing and asks for nothing.
+        let stated = unsafe { raw::agc2_layout_1() };
+        debug_assert_eq!(stated, raw::Layout::HERE);
         // SAFETY: the function takes any numbers.
         let made = unsafe { raw::agc2_new_in_profile_by_value(profile, num_capture_channels, config.in_numbers(), predictor.in_numbers()) };
         Refusal::check(made.refusal)?;
@@ -204,7 +244,11 @@ impl InputVolumeController {
     }
 
     /// A frame of 10 ms of all channels, one after another, each of `samples_per_channel` samples, 1 to 480, on the 16-bit scale, captured at the
-    /// volume that is applied. Refuses with causes 8 and 9, with capture off too; a refused frame changes nothing that a later call answers.
+    /// volume that is applied. A refused frame changes nothing that a later call answers.
+    ///
+    /// # Errors
+    ///
+    /// [`Refusal::InputVolume`], then [`Refusal::FrameSize`], with capture off too.
     pub fn analyze_input_audio(&mut self, applied_input_volume: i32, samples_per_channel: usize, samples: &[f32]) -> Result<Accepted, Refusal> {
         // SAFETY: the state is one that the library handed out, and the pointer and the length are the slice's, which is not ours.
         unsafe { raw::agc2_analyze_input_audio_into(&mut self.raw, applied_input_volume, samples_per_channel, samples.as_ptr(), samples.len()) };
@@ -213,8 +257,7 @@ impl InputVolumeController {
 
     /// The same where each microphone has a volume of its own: one for each channel in their order, taken whole or not at all. The lowest is the volume that is applied, which a
     /// recommendation with capture off repeats, and with capture on the recommendation is the lowest of the channels. Only if every volume is above 0 it is raised to
-    /// [`Config::min_input_volume`]. Equal volumes are [`InputVolumeController::analyze_input_audio`]. Refuses with cause 20 if they are not as many as the channels, then with 8 if any is
-    /// not 0 to 255, then with 9.
+    /// [`Config::min_input_volume`]. Equal volumes are [`InputVolumeController::analyze_input_audio`].
     ///
     /// ```
     /// use agc2::{Config, InputVolumeController, Refusal};
@@ -225,6 +268,10 @@ impl InputVolumeController {
     /// assert_eq!(controller.analyze_input_audio_each(&[120], 1, &[0.0, 0.0]), Err(Refusal::VolumeCount));
     /// # Ok::<(), Refusal>(())
     /// ```
+    ///
+    /// # Errors
+    ///
+    /// [`Refusal::VolumeCount`], then [`Refusal::InputVolume`] for any of the volumes, then [`Refusal::FrameSize`].
     pub fn analyze_input_audio_each(&mut self, volumes: &[i32], samples_per_channel: usize, samples: &[f32]) -> Result<Accepted, Refusal> {
         // SAFETY: the state is one that the library handed out, and the pointers and the lengths are the slices', which are not ours.
         unsafe {
@@ -275,8 +322,7 @@ impl InputVolumeController {
 
     /// Metrics over `num_items` records of a channel's ring, those behind the newest `delay`: what a fitter reads to see a clipped stretch. None where fewer than
     /// `delay + num_items` are stored, and so in a channel that is not there. Clipping that is found or predicted, after which the volume falls, empties the rings; in
-    /// the wait after it they fill again. Refuses with cause 11 a negative delay, `num_items` below 1, and a sum of both above what a ring holds, which is the
-    /// predictor's delay + reference: 10 with the original's.
+    /// the wait after it they fill again.
     ///
     /// ```
     /// use agc2::{Config, InputVolumeController, Refusal};
@@ -288,6 +334,10 @@ impl InputVolumeController {
     /// assert_eq!(controller.compute_partial_metrics(0, 0, 11), Err(Refusal::RingRange));
     /// # Ok::<(), Refusal>(())
     /// ```
+    ///
+    /// # Errors
+    ///
+    /// [`Refusal::RingRange`] for a negative delay, `num_items` below 1, or a sum of both above what a ring holds, which is the predictor's delay + reference: 10 with the original's.
     pub fn compute_partial_metrics(&self, channel: usize, delay: i32, num_items: i32) -> Result<Option<Level>, Refusal> {
         // SAFETY: the state is one that the library handed out.
         let m = unsafe { raw::agc2_compute_partial_metrics_by_value(self.raw, channel, delay, num_items) };

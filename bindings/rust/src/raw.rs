@@ -1,4 +1,5 @@
-//! The functions of the archive and the structs that they pass, as include/agc2.h has them. A test holds the sizes to what the archive states.
+//! The functions of the archive and the structs that they pass, as include/agc2.h has them.
+use core::mem::{offset_of, size_of};
 
 /// All of a controller but its predictor. Its words belong to the library.
 #[repr(C)]
@@ -81,7 +82,7 @@ pub struct Metrics {
 pub const PLAIN: u32 = 0;
 pub const CLASSROOM: u32 = 1;
 
-#[cfg(test)]
+/// Sizes, and the places of what stands within, in bytes.
 #[repr(C)]
 #[derive(Debug, PartialEq, Eq)]
 pub struct Layout {
@@ -96,7 +97,25 @@ pub struct Layout {
     pub metrics_size: u32,
 }
 
+impl Layout {
+    /// As this file has them.
+    pub const HERE: Layout = Layout {
+        control_size: size_of::<Control>() as u32,
+        control_state: offset_of!(Control, state) as u32,
+        controller_size: size_of::<Controller>() as u32,
+        controller_control: offset_of!(Controller, control) as u32,
+        controller_predictor: offset_of!(Controller, predictor) as u32,
+        config_size: size_of::<Config>() as u32,
+        record_size: size_of::<Record>() as u32,
+        predictor_config_size: size_of::<PredictorConfig>() as u32,
+        metrics_size: size_of::<Metrics>() as u32,
+    };
+}
+
 extern "C" {
+    pub fn agc2_version() -> u32;
+    /// As the archive has them. The name has the number of the layout: an archive with another has no function of this name.
+    pub fn agc2_layout_1() -> Layout;
     pub fn agc2_default_config() -> Config;
     pub fn agc2_default_predictor_config() -> PredictorConfig;
     pub fn agc2_new_in_profile_by_value(profile: u32, num_capture_channels: i32, config: Config, predictor: PredictorConfig) -> Controller;
@@ -130,36 +149,25 @@ extern "C" {
     pub fn agc2_recommended_input_volume_by_value(control: ControlState) -> i32;
     pub fn agc2_stored_record_by_value(controller: Controller, channel: usize, i: usize) -> Record;
     pub fn agc2_compute_partial_metrics_by_value(controller: Controller, channel: usize, delay: i32, num_items: i32) -> Metrics;
-    #[cfg(test)]
-    pub fn agc2_layout_1() -> Layout;
+    pub fn agc2_frame_of_interleaved_i16(channels: usize, samples: *const i16, count: usize, frame: *mut f32, room: usize);
+    pub fn agc2_frame_of_unit(samples: *const f32, count: usize, frame: *mut f32, room: usize);
 }
 
 #[cfg(test)]
 mod tests {
     use super::*;
-    use std::mem::{align_of, offset_of, size_of};
+    use core::mem::align_of;
 
     #[test]
     fn sizes_are_those_the_archive_states() {
-        let here = Layout {
-            control_size: size_of::<Control>() as u32,
-            control_state: offset_of!(Control, state) as u32,
-            controller_size: size_of::<Controller>() as u32,
-            controller_control: offset_of!(Controller, control) as u32,
-            controller_predictor: offset_of!(Controller, predictor) as u32,
-            config_size: size_of::<Config>() as u32,
-            record_size: size_of::<Record>() as u32,
-            predictor_config_size: size_of::<PredictorConfig>() as u32,
-            metrics_size: size_of::<Metrics>() as u32,
-        };
         // SAFETY: the function takes nothing and asks for nothing.
-        assert_eq!(unsafe { agc2_layout_1() }, here);
+        assert_eq!(unsafe { agc2_layout_1() }, Layout::HERE);
         assert_eq!(align_of::<Controller>(), 8);
     }
 
     fn bytes(c: &Controller) -> &[u8] {
         // SAFETY: these are the bytes of the struct, which has no gap.
-        unsafe { std::slice::from_raw_parts((c as *const Controller).cast(), size_of::<Controller>()) }
+        unsafe { core::slice::from_raw_parts((c as *const Controller).cast(), size_of::<Controller>()) }
     }
 
     /// Accepted, it is the plain controller of the same arguments; refused, it is what any refused making is, but for the number.

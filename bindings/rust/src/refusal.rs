@@ -1,8 +1,8 @@
 //! Why a call says no.
-use std::error::Error;
-use std::fmt;
+use core::error::Error;
+use core::fmt;
 
-/// A refusal, with its number (`as u32`, or [`Refusal::number`]). A refused call leaves the controller as it was.
+/// A refusal, with its number (`as u32`, or [`Refusal::number`]), from which it can be had again (`try_from`). A refused call leaves the controller as it was.
 #[derive(Debug, Clone, Copy, PartialEq, Eq, Hash)]
 #[repr(u32)]
 pub enum Refusal {
@@ -46,8 +46,23 @@ impl Refusal {
 
     /// `Ok` at 0. The contracts of the library allow no other numbers than these.
     pub(crate) fn check(number: u32) -> Result<(), Refusal> {
-        Err(match number {
-            0 => return Ok(()),
+        if number == 0 {
+            return Ok(());
+        }
+        Err(Refusal::try_from(number).unwrap_or_else(|NoRefusal(other)| unreachable!("libagc2.a answered {other}, which is no refusal of it")))
+    }
+}
+
+impl TryFrom<u32> for Refusal {
+    type Error = NoRefusal;
+
+    /// The refusal of a number that was stored or sent.
+    ///
+    /// # Errors
+    ///
+    /// [`NoRefusal`], if there is none of this number, as at 0.
+    fn try_from(number: u32) -> Result<Self, NoRefusal> {
+        Ok(match number {
             1 => Refusal::ChannelCount,
             2 => Refusal::MinimumVolume,
             3 => Refusal::ClippedLevelStep,
@@ -63,7 +78,7 @@ impl Refusal {
             18 => Refusal::FrameLimits,
             19 => Refusal::ClassroomProfile,
             20 => Refusal::VolumeCount,
-            other => unreachable!("libagc2.a answered {other}, which is no refusal of it"),
+            other => return Err(NoRefusal(other)),
         })
     }
 }
@@ -91,3 +106,15 @@ impl fmt::Display for Refusal {
 }
 
 impl Error for Refusal {}
+
+/// A number that is no refusal's.
+#[derive(Debug, Clone, Copy, PartialEq, Eq, Hash)]
+pub struct NoRefusal(pub u32);
+
+impl fmt::Display for NoRefusal {
+    fn fmt(&self, f: &mut fmt::Formatter<'_>) -> fmt::Result {
+        write!(f, "{} is the number of no refusal", self.0)
+    }
+}
+
+impl Error for NoRefusal {}

@@ -39,8 +39,11 @@ impl<'a> Spotter<'a> {
         Spotter { controller }
     }
 
-    /// A frame, as [`InputVolumeController::analyze_input_audio`]. Refuses with causes 8 and 9 as that does, then with 18 a frame of more than 2 channels or 160 samples per channel; a refused
-    /// frame changes nothing that a later call answers.
+    /// A frame, as [`InputVolumeController::analyze_input_audio`].
+    ///
+    /// # Errors
+    ///
+    /// Those of [`InputVolumeController::analyze_input_audio`], then [`Refusal::FrameLimits`] for more than 2 channels or 160 samples per channel.
     pub fn analyze_input_audio(&mut self, applied_input_volume: i32, samples_per_channel: usize, samples: &[f32]) -> Result<Accepted, Refusal> {
         // SAFETY: the state is one that the library handed out, and the pointer and the length are the slice's, which is not ours.
         unsafe {
@@ -49,7 +52,11 @@ impl<'a> Spotter<'a> {
         self.controller.framed()
     }
 
-    /// The same with a volume for each channel, as [`InputVolumeController::analyze_input_audio_each`]. Refuses with causes 20, 8 and 9 as that does, then with 18.
+    /// The same with a volume for each channel, as [`InputVolumeController::analyze_input_audio_each`].
+    ///
+    /// # Errors
+    ///
+    /// Those of [`InputVolumeController::analyze_input_audio_each`], then [`Refusal::FrameLimits`].
     pub fn analyze_input_audio_each(&mut self, volumes: &[i32], samples_per_channel: usize, samples: &[f32]) -> Result<Accepted, Refusal> {
         // SAFETY: the state is one that the library handed out, and the pointers and the lengths are the slices', which are not ours.
         unsafe {

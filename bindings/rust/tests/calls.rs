@@ -1,7 +1,7 @@
 //! Drives the bindings as a tablet would.
 use agc2::{
-    Accepted, ClippingPredictorConfig, ClippingPredictorMode, Config, InputVolumeController, Level, Refusal, MAX_CHANNELS, MAX_SAMPLES_PER_CHANNEL,
-    SPOTTER_MAX_CHANNELS, SPOTTER_MAX_SAMPLES_PER_CHANNEL,
+    version, Accepted, ClippingPredictorConfig, ClippingPredictorMode, Config, InputVolumeController, Level, NoRefusal, Refusal, MAX_CHANNELS,
+    MAX_SAMPLES_PER_CHANNEL, SPOTTER_MAX_CHANNELS, SPOTTER_MAX_SAMPLES_PER_CHANNEL, VERSION,
 };
 
 fn made(channels: i32) -> InputVolumeController {
@@ -32,6 +32,28 @@ fn near_is_six_thousandths() {
         }
         assert_eq!(c.analyze_input_audio(100, 1, &[sample]), Ok(Accepted { near }));
     }
+}
+
+#[test]
+fn crate_and_archive_have_one_version() {
+    let numbers: Vec<u32> = env!("CARGO_PKG_VERSION").split('.').map(|n| n.parse().unwrap()).collect();
+    assert_eq!(numbers.len(), 3);
+    assert_eq!(VERSION, 10_000 * numbers[0] + 100 * numbers[1] + numbers[2]);
+    assert_eq!(version(), VERSION);
+}
+
+/// Both ways, for each of the 15, and for no other number; in words as an error.
+#[test]
+fn a_refusal_is_its_number() {
+    let numbers = [1, 2, 3, 4, 5, 6, 7, 8, 9, 11, 14, 15, 18, 19, 20];
+    for number in (0..1000).chain([u32::MAX]) {
+        let refusal = Refusal::try_from(number);
+        assert_eq!(refusal.map(Refusal::number), if numbers.contains(&number) { Ok(number) } else { Err(NoRefusal(number)) });
+    }
+    let error: Box<dyn std::error::Error> = Refusal::try_from(10).unwrap_err().into();
+    assert_eq!(error.to_string(), "10 is the number of no refusal");
+    let error: Box<dyn std::error::Error> = Refusal::try_from(1).unwrap().into();
+    assert_eq!(error.to_string(), "channel count not 1 to 8");
 }
 
 #[test]
@@ -72,7 +94,6 @@ fn making_refuses_with_the_first_cause() {
     assert_eq!(with(|c| c.speech_ratio_threshold = 1.5), Some(Refusal::SpeechThreshold));
     assert_eq!(with(|c| c.clipped_ratio_threshold = f32::NAN), None);
     assert_eq!(Refusal::SpeechThreshold.number(), 6);
-    assert_eq!(Refusal::ChannelCount.to_string(), "channel count not 1 to 8");
 }
 
 #[test]
@@ -213,10 +234,13 @@ fn seen(c: &InputVolumeController) -> (i32, Vec<Option<Level>>) {
     (c.recommended_input_volume(), (0..30).map(|i| c.stored_record(i / 10, i % 10)).collect())
 }
 
+/// Channels, their volumes, samples per channel, samples lent, and the refusal if there is one.
+type Lent = (i32, &'static [i32], usize, usize, Option<Refusal>);
+
 /// At most 2 channels and 160 samples each. 18 comes after 9, 9 after 8 and 8 after 20, whatever else is wrong, with capture on and off; the plain entry takes what only 18 refuses.
 #[test]
 fn a_frame_over_the_spotters_limits_changes_nothing() {
-    let frames: [(i32, &[i32], usize, usize, Option<Refusal>); 12] = [
+    let frames: [Lent; 12] = [
         (1, &[200], 160, 160, None),
         (2, &[200, 100], 160, 320, None),
         (1, &[200], 161, 161, Some(Refusal::FrameLimits)),
