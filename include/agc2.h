@@ -1,6 +1,7 @@
 /* The input volume controller of WebRTC's AGC2, over a library in which every function is proved to meet its contract.
  *
- * Link target/staticlib/libagc2.a, which `rt staticlib agc2` writes (x86-64, System V ABI; it needs memcpy and memset and nothing else).
+ * Link libagc2.a or libagc2.so, which `tools/install` puts under a prefix with this file, pkg-config's agc2.pc and CMake's package agc2, or target/staticlib/libagc2.a, which `rt staticlib agc2` writes
+ * (x86-64, System V ABI; the archive needs memcpy and memset and nothing else). An archive of another layout does not link: the name in AGC2_LAYOUT is not in it.
  *
  *     agc2_controller controller;
  *     uint32_t refusal = agc2_new(&controller, 1, agc2_default_config());
@@ -8,13 +9,14 @@
  *     int32_t recommended;
  *     if (agc2_recommend_input_volume(&controller, 0.9f, &level, &recommended)) { .. apply it .. }
  *
- * A frame is 10 ms of sound, at up to 48 kHz, as floats on the 16-bit scale, -32768 to 32767. Samples from -1.0 to 1.0 are all but silence on it and never clip.
+ * A frame is 10 ms of sound, at up to 48 kHz, as floats on the 16-bit scale, -32768 to 32767. Samples from -1.0 to 1.0 are all but silence on it and never clip: these, and 16-bit samples, have entries of
+ * their own (agc2_analyze_unit_channels, agc2_analyze_interleaved_i16).
  *
  * A call answers 0, or the number of its refusal (agc2_words), and a refused call leaves the controller's state, the words in it, as it was, byte for byte. In front of the state stand
  * the last answers: a frame, refused or not, writes `refusal` and `near` and sets `present` and `volume` to 0; a recommendation writes `present` and `volume`.
  *
  * No argument is out of bounds but two kinds: a pointer must be valid, with as many samples or volumes behind it as the count says, none of them within the controller; and a controller
- * must be one that a making (agc2_new, agc2_new_with_predictor, agc2_new_classroom, agc2_new_classroom_with_predictor) accepted and that nobody else wrote to. A controller has no pointer in it and
+ * must be one that a making (agc2_new, agc2_new_with_predictor, agc2_new_classroom, agc2_new_classroom_with_predictor) wrote and that nobody else wrote to. A controller has no pointer in it and
  * may be copied and moved; two threads must not use one at once.
  * The proofs take floats to work as they do by default: rounded to nearest, with no subnormal number flushed to zero.
  *
@@ -29,6 +31,23 @@
 #ifdef __cplusplus
 extern "C" {
 #endif
+
+/* This header's version; agc2_version() is the archive's. A change of PATCH mends, one of MINOR adds, and one of MAJOR changes what is there. */
+#define AGC2_VERSION_MAJOR 1
+#define AGC2_VERSION_MINOR 0
+#define AGC2_VERSION_PATCH 0
+#define AGC2_VERSION (10000 * AGC2_VERSION_MAJOR + 100 * AGC2_VERSION_MINOR + AGC2_VERSION_PATCH)
+#define AGC2_QUOTED_(token) #token
+#define AGC2_QUOTED(token) AGC2_QUOTED_(token)
+#define AGC2_VERSION_STRING AGC2_QUOTED(AGC2_VERSION_MAJOR) "." AGC2_QUOTED(AGC2_VERSION_MINOR) "." AGC2_QUOTED(AGC2_VERSION_PATCH)
+
+/* The calls that are defined here are the including file's own. bindings/c/symbols.c has this empty, which makes each a symbol of the shared library. */
+#ifndef AGC2_CALL
+#define AGC2_CALL static inline
+#endif
+
+/* A making whose answer nobody reads may have been refused: the compiler warns. */
+#define AGC2_ANSWER_MATTERS __attribute__((warn_unused_result))
 
 enum { AGC2_MAX_CHANNELS = 8, AGC2_MAX_SAMPLES_PER_CHANNEL = 480 };
 
@@ -152,9 +171,18 @@ typedef struct agc2_layout_of {
     uint32_t metrics_size;
 } agc2_layout_of;
 
+/* The name carries the layout's version: it changes when sizes, places, numbers or a call's arguments do. */
+#define AGC2_LAYOUT agc2_layout_1
+agc2_layout_of AGC2_LAYOUT(void);
+
+/* Every file that includes this one asks the linker for that name, so that an archive of another layout is missing it. It is volatile for the makings, which read it: what nothing reads, a linker that
+ * collects sections drops before it looks for names. */
+__attribute__((used)) static agc2_layout_of (*const volatile agc2_layout_needed)(void) = AGC2_LAYOUT;
+
+/* 10,000 * major + 100 * minor + patch. */
+uint32_t agc2_version(void);
 agc2_config agc2_default_config(void);
 agc2_predictor_config agc2_default_predictor_config(void);
-agc2_layout_of agc2_layout_1(void);
 /* Beside the number of a refusal stands a working controller of one channel with the default settings. */
 agc2_controller agc2_new_by_value(int32_t num_capture_channels, agc2_config config);
 agc2_controller agc2_new_with_predictor_by_value(int32_t num_capture_channels, agc2_config config, agc2_predictor_config predictor);
@@ -170,30 +198,28 @@ int32_t agc2_recommended_input_volume_by_value(agc2_control_state control);
 agc2_record agc2_stored_record_by_value(agc2_controller controller, size_t channel, size_t i);
 agc2_metrics agc2_compute_partial_metrics_by_value(agc2_controller controller, size_t channel, int32_t delay, int32_t num_items);
 
-/* What was made within a profile is handed out, if it was accepted. */
-static inline uint32_t agc2_new_in_profile(agc2_controller *controller, uint32_t profile, int32_t num_capture_channels, agc2_config config, agc2_predictor_config predictor) {
-    agc2_controller made = agc2_new_in_profile_by_value(profile, num_capture_channels, config, predictor);
-    if (made.refusal == AGC2_ACCEPTED) {
-        *controller = made;
-    }
-    return made.refusal;
+/* Every making comes here. */
+AGC2_ANSWER_MATTERS AGC2_CALL uint32_t agc2_new_in_profile(agc2_controller *controller, uint32_t profile, int32_t num_capture_channels, agc2_config config, agc2_predictor_config predictor) {
+    (void)agc2_layout_needed;
+    *controller = agc2_new_in_profile_by_value(profile, num_capture_channels, config, predictor);
+    return controller->refusal;
 }
 
 /* ---- the calls */
 
-/* A controller of 1 to 8 channels with a predictor of any mode, and its own windows, threshold and margin; or a refusal, which leaves *controller unwritten. First come 1 to 6, and then, whether the
- * predictor is on or off, 7, 14 and 15: window and reference are at least 1 frame, the delay of the reference is at least 0, delay + reference above the window (7) and at most 64 (14), threshold and
- * margin are from -200,000 to 200,000 (15).
+/* A controller of 1 to 8 channels with a predictor of any mode, and its own windows, threshold and margin; or a refusal. Refused, *controller is one of one channel with the default settings, which works,
+ * and has the refusal's number in `refusal`: so no making leaves bytes that no call may have. First come 1 to 6, and then, whether the predictor is on or off, 7, 14 and 15: window and reference are
+ * at least 1 frame, the delay of the reference is at least 0, delay + reference above the window (7) and at most 64 (14), threshold and margin are from -200,000 to 200,000 (15).
  *
  *     agc2_predictor_config predictor = agc2_default_predictor_config();
  *     predictor.mode = AGC2_CLIPPING_EVENT_PREDICTION;
  *     refusal = agc2_new_with_predictor(&controller, 1, agc2_default_config(), predictor); */
-static inline uint32_t agc2_new_with_predictor(agc2_controller *controller, int32_t num_capture_channels, agc2_config config, agc2_predictor_config predictor) {
+AGC2_ANSWER_MATTERS AGC2_CALL uint32_t agc2_new_with_predictor(agc2_controller *controller, int32_t num_capture_channels, agc2_config config, agc2_predictor_config predictor) {
     return agc2_new_in_profile(controller, AGC2_PLAIN, num_capture_channels, config, predictor);
 }
 
 /* The same with the original's predictor. Refuses with 1 to 6. */
-static inline uint32_t agc2_new(agc2_controller *controller, int32_t num_capture_channels, agc2_config config) {
+AGC2_ANSWER_MATTERS AGC2_CALL uint32_t agc2_new(agc2_controller *controller, int32_t num_capture_channels, agc2_config config) {
     return agc2_new_with_predictor(controller, num_capture_channels, config, agc2_default_predictor_config());
 }
 
@@ -206,28 +232,28 @@ static inline uint32_t agc2_new(agc2_controller *controller, int32_t num_capture
  *   - clipped_ratio_threshold is 0 to 1, and so a number.
  * After any calls, a clipping frame that moves a channel's own volume off the one that is applied to it never moves it below min_input_volume, before the usual minimum is applied to all channels.
  * Refuses with 1 to 6, and then 7, 14 and 15, as agc2_new_with_predictor does, then with 19 any other settings; else it is the controller of agc2_new_with_predictor, byte for byte. */
-static inline uint32_t agc2_new_classroom_with_predictor(agc2_controller *controller, int32_t num_capture_channels, agc2_config config, agc2_predictor_config predictor) {
+AGC2_ANSWER_MATTERS AGC2_CALL uint32_t agc2_new_classroom_with_predictor(agc2_controller *controller, int32_t num_capture_channels, agc2_config config, agc2_predictor_config predictor) {
     return agc2_new_in_profile(controller, AGC2_CLASSROOM, num_capture_channels, config, predictor);
 }
 
 /* The same with the original's predictor. Refuses with 1 to 6, then with 19. agc2_default_config is within the profile. */
-static inline uint32_t agc2_new_classroom(agc2_controller *controller, int32_t num_capture_channels, agc2_config config) {
+AGC2_ANSWER_MATTERS AGC2_CALL uint32_t agc2_new_classroom(agc2_controller *controller, int32_t num_capture_channels, agc2_config config) {
     return agc2_new_classroom_with_predictor(controller, num_capture_channels, config, agc2_default_predictor_config());
 }
 
 /* Starts anew, with capture on, but keeps the rings, the startup, the volumes and the wait after clipping. A recommendation is none then until a frame comes. */
-static inline void agc2_initialize(agc2_controller *controller) {
+AGC2_CALL void agc2_initialize(agc2_controller *controller) {
     controller->control.state = agc2_initialize_by_value(controller->control.state);
 }
 
 /* While the captured sound is not used (0), frames only set the volume, and recommendations repeat it, as often as they are asked. */
-static inline void agc2_handle_capture_output_used_change(agc2_controller *controller, uint32_t capture_output_used) {
+AGC2_CALL void agc2_handle_capture_output_used_change(agc2_controller *controller, uint32_t capture_output_used) {
     controller->control.state = agc2_handle_capture_output_used_change_by_value(controller->control.state, capture_output_used);
 }
 
 /* A frame of 10 ms, captured at the volume that is applied: the channels one after another, each of samples_per_channel samples, 1 to 480, on the 16-bit
  * scale, count in all. Refuses with 8 and 9, with capture off too. */
-static inline uint32_t agc2_analyze_input_audio(agc2_controller *controller, int32_t applied_input_volume, size_t samples_per_channel, const float *samples, size_t count) {
+AGC2_CALL uint32_t agc2_analyze_input_audio(agc2_controller *controller, int32_t applied_input_volume, size_t samples_per_channel, const float *samples, size_t count) {
     agc2_analyze_input_audio_into(controller, applied_input_volume, samples_per_channel, samples, count);
     return controller->refusal;
 }
@@ -235,33 +261,86 @@ static inline uint32_t agc2_analyze_input_audio(agc2_controller *controller, int
 /* The same where each microphone has a volume of its own: volume_count volumes, one for each channel in their order, taken whole or not at all. The lowest is the volume that is applied, which a
  * recommendation with capture off repeats, and with capture on the recommendation is the lowest of the channels. Only if every volume is above 0 it is raised to min_input_volume. Equal volumes are
  * agc2_analyze_input_audio, byte for byte. Refuses with 20 if volume_count is not the channel count, then with 8 if any volume is not 0 to 255, then with 9. */
-static inline uint32_t agc2_analyze_input_audio_each(agc2_controller *controller, const int32_t *volumes, size_t volume_count, size_t samples_per_channel, const float *samples, size_t count) {
+AGC2_CALL uint32_t agc2_analyze_input_audio_each(agc2_controller *controller, const int32_t *volumes, size_t volume_count, size_t samples_per_channel, const float *samples, size_t count) {
     agc2_analyze_input_audio_each_into(controller, volumes, volume_count, samples_per_channel, samples, count);
     return controller->refusal;
 }
 
 /* The word spotter's entry: a frame of at most 2 channels and 160 samples per channel. A larger one is refused with 18, after every refusal of agc2_analyze_input_audio (8 and 9), and changes nothing;
  * any other frame is agc2_analyze_input_audio, byte for byte. So a controller of more than 2 channels takes no frame here. Both entries may be used on one controller. */
-static inline uint32_t agc2_spotter_analyze_input_audio(agc2_controller *controller, int32_t applied_input_volume, size_t samples_per_channel, const float *samples, size_t count) {
+AGC2_CALL uint32_t agc2_spotter_analyze_input_audio(agc2_controller *controller, int32_t applied_input_volume, size_t samples_per_channel, const float *samples, size_t count) {
     agc2_spotter_analyze_input_audio_into(controller, applied_input_volume, samples_per_channel, samples, count);
     return controller->refusal;
 }
 
 /* The same where each microphone has a volume of its own, as agc2_analyze_input_audio_each. Refuses with 20, 8 and 9 as that does, then with 18. */
-static inline uint32_t agc2_spotter_analyze_input_audio_each(agc2_controller *controller, const int32_t *volumes, size_t volume_count, size_t samples_per_channel, const float *samples, size_t count) {
+AGC2_CALL uint32_t agc2_spotter_analyze_input_audio_each(agc2_controller *controller, const int32_t *volumes, size_t volume_count, size_t samples_per_channel, const float *samples, size_t count) {
     agc2_spotter_analyze_input_audio_each_into(controller, volumes, volume_count, samples_per_channel, samples, count);
     return controller->refusal;
 }
 
+/* ---- samples as devices give them, put in a frame's order and on its scale. Each of these calls has the answer and leaves the bytes of agc2_analyze_input_audio with that frame. For a volume for each
+ * microphone, and for the spotter, put the samples in a buffer of your own with the converters, which are proved, and call the entry that is meant. */
+
+/* count interleaved samples, at each moment channel after channel: frame[c * n + i] = samples[i * channels + c], where n = count / channels. Writes n * channels floats, each exact; or none, where
+ * room is less or channels is 0. */
+void agc2_frame_of_interleaved_i16(size_t channels, const int16_t *samples, size_t count, float *frame, size_t room);
+
+/* Samples from -1.0 to 1.0, each times 32,768, which is exact but for what exceeds the largest float; or nothing is written, where room is less than count. 1.0 is clipped then, as -1.0 is. */
+void agc2_frame_of_unit(const float *samples, size_t count, float *frame, size_t room);
+
+/* The frame that a call below put in `frame`, or that did not fit there. No controller takes one that does not, and so it stands for it that there are no samples: the definition refuses either with 8 if the
+ * volume is wrong, else with 9. */
+static inline uint32_t agc2_analyze_converted(agc2_controller *controller, int32_t applied_input_volume, size_t samples_per_channel, const float *frame, size_t count, int fits) {
+    return agc2_analyze_input_audio(controller, applied_input_volume, fits ? samples_per_channel : 0, frame, fits ? count : 0);
+}
+
+/* Tested one by one, since the product of two such numbers may be any. */
+static inline int agc2_channels_fit(size_t samples_per_channel, size_t channel_count) {
+    return samples_per_channel <= AGC2_MAX_SAMPLES_PER_CHANNEL && channel_count <= AGC2_MAX_CHANNELS;
+}
+
+/* A frame of interleaved 16-bit samples, count in all. */
+AGC2_CALL uint32_t agc2_analyze_interleaved_i16(agc2_controller *controller, int32_t applied_input_volume, size_t samples_per_channel, const int16_t *samples, size_t count) {
+    float frame[AGC2_MAX_CHANNELS * AGC2_MAX_SAMPLES_PER_CHANNEL];
+    const size_t room = sizeof frame / sizeof frame[0];
+    agc2_frame_of_interleaved_i16(samples_per_channel != 0 ? count / samples_per_channel : 0, samples, count, frame, room);
+    return agc2_analyze_converted(controller, applied_input_volume, samples_per_channel, frame, count, count <= room);
+}
+
+/* A frame whose channels stand apart, each of samples_per_channel floats on the 16-bit scale. */
+AGC2_CALL uint32_t agc2_analyze_channels(agc2_controller *controller, int32_t applied_input_volume, size_t samples_per_channel, const float *const *channels, size_t channel_count) {
+    float frame[AGC2_MAX_CHANNELS * AGC2_MAX_SAMPLES_PER_CHANNEL];
+    const int fits = agc2_channels_fit(samples_per_channel, channel_count);
+    for (size_t c = 0; fits && c < channel_count; c++) {
+        for (size_t i = 0; i < samples_per_channel; i++) {
+            frame[c * samples_per_channel + i] = channels[c][i];
+        }
+    }
+    return agc2_analyze_converted(controller, applied_input_volume, samples_per_channel, frame, channel_count * samples_per_channel, fits);
+}
+
+/* The same of floats from -1.0 to 1.0. */
+AGC2_CALL uint32_t agc2_analyze_unit_channels(agc2_controller *controller, int32_t applied_input_volume, size_t samples_per_channel, const float *const *channels, size_t channel_count) {
+    float frame[AGC2_MAX_CHANNELS * AGC2_MAX_SAMPLES_PER_CHANNEL];
+    const int fits = agc2_channels_fit(samples_per_channel, channel_count);
+    for (size_t c = 0; fits && c < channel_count; c++) {
+        agc2_frame_of_unit(channels[c], samples_per_channel, frame + c * samples_per_channel, samples_per_channel);
+    }
+    return agc2_analyze_converted(controller, applied_input_volume, samples_per_channel, frame, channel_count * samples_per_channel, fits);
+}
+
+/* ---- what a controller answers */
+
 /* 1 if the last frame compared levels so close, six thousandths of a dB apart or less, that the original, which rounds logarithms, may have decided otherwise
  * and so left another state, else 0; 0 after a refused frame. What follows may then differ from the original without a mark. */
-static inline uint32_t agc2_near(const agc2_controller *controller) {
+AGC2_CALL uint32_t agc2_near(const agc2_controller *controller) {
     return controller->near;
 }
 
 /* 1 with the volume to apply in *volume; or 0, with *volume as it was, where no frame was accepted since the making, the last agc2_initialize or the last
  * recommendation with capture on, whichever came latest. With capture off it is the volume of the last frame, again and again. A null speech level is none. */
-static inline uint32_t agc2_recommend_input_volume(agc2_controller *controller, float speech_probability, const float *speech_level_dbfs, int32_t *volume) {
+AGC2_CALL uint32_t agc2_recommend_input_volume(agc2_controller *controller, float speech_probability, const float *speech_level_dbfs, int32_t *volume) {
     agc2_recommend_input_volume_into(&controller->control, speech_probability, speech_level_dbfs != NULL, speech_level_dbfs != NULL ? *speech_level_dbfs : 0.0f);
     if (controller->control.present != 0) {
         *volume = controller->control.volume;
@@ -270,24 +349,29 @@ static inline uint32_t agc2_recommend_input_volume(agc2_controller *controller, 
 }
 
 /* The controller's volume. */
-static inline int32_t agc2_recommended_input_volume(const agc2_controller *controller) {
+AGC2_CALL int32_t agc2_recommended_input_volume(const agc2_controller *controller) {
     return agc2_recommended_input_volume_by_value(controller->control.state);
 }
 
 /* The i-th record that a channel's ring stores, the newest being the 0th. */
-static inline agc2_record agc2_stored_record(const agc2_controller *controller, size_t channel, size_t i) {
+AGC2_CALL agc2_record agc2_stored_record(const agc2_controller *controller, size_t channel, size_t i) {
     return agc2_stored_record_by_value(*controller, channel, i);
 }
 
 /* Metrics over num_items records of a channel's ring, those behind the newest `delay`: what a fitter reads to see a clipped stretch. There are none where fewer than delay + num_items are stored, and so
  * in a channel that is not there. Clipping that is found or predicted, after which the volume falls, empties the rings; in the wait after it they fill again. Refuses with 11 a negative delay, num_items
  * below 1, and a sum of both above what a ring holds, which is the predictor's delay + reference: 10 with the original's. */
-static inline agc2_metrics agc2_compute_partial_metrics(const agc2_controller *controller, size_t channel, int32_t delay, int32_t num_items) {
+AGC2_CALL agc2_metrics agc2_compute_partial_metrics(const agc2_controller *controller, size_t channel, int32_t delay, int32_t num_items) {
     return agc2_compute_partial_metrics_by_value(*controller, channel, delay, num_items);
 }
 
+/* For languages that cannot read this file: how many bytes to give a controller, at an address that is a multiple of 8. */
+AGC2_CALL size_t agc2_controller_size(void) {
+    return sizeof(agc2_controller);
+}
+
 /* A refusal in words. */
-static inline const char *agc2_words(uint32_t refusal) {
+AGC2_CALL const char *agc2_words(uint32_t refusal) {
     switch (refusal) {
     case AGC2_ACCEPTED:
         return "accepted";

@@ -21,7 +21,7 @@ static void check(int holds, const char *what) {
 /* ---- the layout */
 
 static void sizes_are_those_the_archive_states(void) {
-    agc2_layout_of l = agc2_layout_1();
+    agc2_layout_of l = AGC2_LAYOUT();
     CHECK(l.control_size == sizeof(agc2_control));
     CHECK(l.control_state == offsetof(agc2_control, state));
     CHECK(l.controller_size == sizeof(agc2_controller));
@@ -31,6 +31,15 @@ static void sizes_are_those_the_archive_states(void) {
     CHECK(l.record_size == sizeof(agc2_record));
     CHECK(l.predictor_config_size == sizeof(agc2_predictor_config));
     CHECK(l.metrics_size == sizeof(agc2_metrics));
+    CHECK(agc2_controller_size() == sizeof(agc2_controller));
+}
+
+/* The archive is of the header's version, which is written in two ways. */
+static void versions_agree(void) {
+    char written_out[16];
+    uint32_t version = agc2_version();
+    snprintf(written_out, sizeof written_out, "%u.%u.%u", version / 10000, version / 100 % 100, version % 100);
+    CHECK(version == AGC2_VERSION && strcmp(written_out, AGC2_VERSION_STRING) == 0);
 }
 
 /* What lies below the stack's end is filled, so that a byte which a call copies from there unwritten is seen. */
@@ -71,9 +80,9 @@ static void before_writing(void) {
 
 /* One way to make a controller of one channel, by its number: everybody's two, and within each profile. */
 static void create(int way, void *result, agc2_config config) {
-    const creates plain = (creates)(void (*)(void))agc2_new_by_value;
-    const creates_with with = (creates_with)(void (*)(void))agc2_new_with_predictor_by_value;
-    const creates_in in_profile = (creates_in)(void (*)(void))agc2_new_in_profile_by_value;
+    creates plain = (creates)(void (*)(void))agc2_new_by_value;
+    creates_with with = (creates_with)(void (*)(void))agc2_new_with_predictor_by_value;
+    creates_in in_profile = (creates_in)(void (*)(void))agc2_new_in_profile_by_value;
     if (way == 0) {
         plain(result, 1, config);
     } else if (way == 1) {
@@ -421,6 +430,14 @@ static void spotter_refusals(void) {
     CHECK(strcmp(agc2_words(AGC2_FRAME_LIMITS), "more channels or samples per channel than the spotter's 2 and 160") == 0);
 }
 
+/* What a refused making leaves: beside the refusal's number, in all bytes the controller of one channel with the default settings. */
+static void stands_refused(const agc2_controller *c, uint32_t refusal) {
+    static agc2_controller expected;
+    CHECK(agc2_new(&expected, 1, agc2_default_config()) == AGC2_ACCEPTED);
+    expected.refusal = refusal;
+    CHECK(memcmp(c, &expected, sizeof expected) == 0);
+}
+
 /* ---- the classroom profile */
 
 /* The six conditions. A threshold that is not a number is neither at least 0 nor at most 1. */
@@ -429,16 +446,14 @@ static int in_classroom(agc2_config c) {
            c.clipped_wait_frames >= 100 && c.update_input_volume_wait_frames >= 100 && c.clipped_ratio_threshold >= 0.0f && c.clipped_ratio_threshold <= 1.0f;
 }
 
-/* What a making of the classroom left in a controller of bytes 0x55, and the whole that stands beside its answer. Accepted, both are the plain controller in all bytes; refused, nothing is written, and the
- * whole is that of any other refusal but for the number. */
+/* What a making of the classroom left in a controller of bytes 0x55, and the whole that the archive hands back: equal, accepted the plain controller in all bytes, and refused what stands there then. */
 static void made_as_answered(uint32_t answer, const agc2_controller *left, const agc2_controller *whole, const agc2_controller *plain) {
-    static agc2_controller unwritten, refused;
-    memset(&unwritten, 0x55, sizeof unwritten);
-    refused = agc2_new_by_value(0, agc2_default_config());
-    CHECK(refused.refusal == AGC2_CHANNEL_COUNT);
-    refused.refusal = answer;
-    CHECK(memcmp(left, answer == AGC2_ACCEPTED ? plain : &unwritten, sizeof *left) == 0);
-    CHECK(memcmp(whole, answer == AGC2_ACCEPTED ? plain : &refused, sizeof *whole) == 0);
+    CHECK(memcmp(left, whole, sizeof *left) == 0);
+    if (answer == AGC2_ACCEPTED) {
+        CHECK(memcmp(left, plain, sizeof *left) == 0);
+    } else {
+        stands_refused(left, answer);
+    }
 }
 
 /* The classroom's making beside the plain one: a refusal of that comes first, and then 19. Its answer. */
@@ -746,20 +761,28 @@ static void default_settings(void) {
 }
 
 /* The example of document 01, "The frame-line program": frames of four samples, default settings, one channel. */
-static void the_example(void) {
+static void runs_the_example(agc2_controller *c) {
     static const float silent[4] = {0}, clipped[4] = {32767, 32767, 0, 0};
-    agc2_controller c;
     int32_t volume = -1;
-    CHECK(agc2_new(&c, 1, agc2_default_config()) == 0);
-    CHECK(agc2_recommend_input_volume(&c, 0.0f, NULL, &volume) == 0 && volume == -1);
+    CHECK(agc2_recommend_input_volume(c, 0.0f, NULL, &volume) == 0 && volume == -1);
 
-    CHECK(agc2_analyze_input_audio(&c, 0xc8, 4, silent, 4) == 0 && agc2_near(&c) == 0);
-    CHECK(agc2_recommend_input_volume(&c, 0.0f, NULL, &volume) == 1 && volume == 0xc8);
-    CHECK(agc2_analyze_input_audio(&c, 0xc8, 4, clipped, 4) == 0);
-    CHECK(agc2_recommend_input_volume(&c, 0.0f, NULL, &volume) == 1 && volume == 0xb9);
-    CHECK(agc2_analyze_input_audio(&c, 0xb9, 4, silent, 4) == 0);
-    CHECK(agc2_recommend_input_volume(&c, 0.0f, NULL, &volume) == 1 && volume == 0xb9);
-    CHECK(agc2_recommended_input_volume(&c) == 0xb9);
+    CHECK(agc2_analyze_input_audio(c, 0xc8, 4, silent, 4) == 0 && agc2_near(c) == 0);
+    CHECK(agc2_recommend_input_volume(c, 0.0f, NULL, &volume) == 1 && volume == 0xc8);
+    CHECK(agc2_analyze_input_audio(c, 0xc8, 4, clipped, 4) == 0);
+    CHECK(agc2_recommend_input_volume(c, 0.0f, NULL, &volume) == 1 && volume == 0xb9);
+    CHECK(agc2_analyze_input_audio(c, 0xb9, 4, silent, 4) == 0);
+    CHECK(agc2_recommend_input_volume(c, 0.0f, NULL, &volume) == 1 && volume == 0xb9);
+    CHECK(agc2_recommended_input_volume(c) == 0xb9);
+}
+
+/* So does what a refused making leaves: a caller who goes on has no bytes that a call may not have. */
+static void the_example(void) {
+    agc2_controller made, refused;
+    CHECK(agc2_new(&made, 1, agc2_default_config()) == AGC2_ACCEPTED);
+    runs_the_example(&made);
+    memset(&refused, 0x55, sizeof refused);
+    CHECK(agc2_new(&refused, 9, agc2_default_config()) == AGC2_CHANNEL_COUNT);
+    runs_the_example(&refused);
 }
 
 /* With the tenth frame the windows are full, and its peak is compared with the threshold of -1 dB: 29,226 lies six thousandths of a dB above it, 29,229 seven. 32,766
@@ -774,29 +797,34 @@ static void marks(void) {
     }
 }
 
+static void refused_making(int32_t channels, agc2_config config, uint32_t refusal) {
+    agc2_controller c;
+    memset(&c, 0x55, sizeof c);
+    CHECK(agc2_new(&c, channels, config) == refusal);
+    stands_refused(&c, refusal);
+}
+
 static void refusals(void) {
     static const float frame[961] = {0};
     agc2_config d = agc2_default_config();
-    agc2_controller c, before;
+    agc2_controller c;
     int32_t volume = 0;
-    memset(&c, 0x55, sizeof c);
-    memcpy(&before, &c, sizeof c);
-    CHECK(agc2_new(&c, 0, d) == AGC2_CHANNEL_COUNT && agc2_new(&c, 9, d) == AGC2_CHANNEL_COUNT);
+    refused_making(0, d, AGC2_CHANNEL_COUNT);
+    refused_making(9, d, AGC2_CHANNEL_COUNT);
     d.min_input_volume = 256;
-    CHECK(agc2_new(&c, 1, d) == AGC2_MINIMUM_VOLUME);
+    refused_making(1, d, AGC2_MINIMUM_VOLUME);
     d = agc2_default_config();
     d.clipped_level_step = 0;
-    CHECK(agc2_new(&c, 1, d) == AGC2_CLIPPED_LEVEL_STEP);
+    refused_making(1, d, AGC2_CLIPPED_LEVEL_STEP);
     d = agc2_default_config();
     d.clipped_wait_frames = 65536;
-    CHECK(agc2_new(&c, 1, d) == AGC2_WAIT_FRAMES);
+    refused_making(1, d, AGC2_WAIT_FRAMES);
     d = agc2_default_config();
     d.target_range_min_dbfs = -91;
-    CHECK(agc2_new(&c, 1, d) == AGC2_TARGET_RANGE);
+    refused_making(1, d, AGC2_TARGET_RANGE);
     d = agc2_default_config();
     memset(&d.speech_ratio_threshold, 255, sizeof d.speech_ratio_threshold);
-    CHECK(agc2_new(&c, 1, d) == AGC2_SPEECH_THRESHOLD);
-    CHECK(memcmp(&c, &before, sizeof c) == 0);
+    refused_making(1, d, AGC2_SPEECH_THRESHOLD);
     CHECK(strcmp(agc2_words(AGC2_SPEECH_THRESHOLD), "speech probability or speech ratio threshold not 0 to 1, or not a number") == 0);
 
     CHECK(agc2_new(&c, 2, agc2_default_config()) == 0);
@@ -905,36 +933,40 @@ static void modes(void) {
     }
 }
 
+static void refused_making_with(int32_t channels, agc2_config config, agc2_predictor_config predictor, uint32_t refusal) {
+    agc2_controller c;
+    memset(&c, 0x55, sizeof c);
+    CHECK(agc2_new_with_predictor(&c, channels, config, predictor) == refusal);
+    stands_refused(&c, refusal);
+}
+
 /* After 1 to 6, and whether the predictor is on or off. */
 static void predictor_refusals(void) {
     agc2_predictor_config p = agc2_default_predictor_config();
-    agc2_controller c, before;
-    memset(&c, 0x55, sizeof c);
-    memcpy(&before, &c, sizeof c);
+    agc2_controller c, other;
     for (uint32_t on = 0; on < 2; on++) {
         agc2_config d = agc2_default_config();
         d.enable_clipping_predictor = on;
         p = agc2_default_predictor_config();
         p.window_length = 10;
-        CHECK(agc2_new_with_predictor(&c, 1, d, p) == AGC2_PREDICTOR_WINDOWS);
-        CHECK(agc2_new_with_predictor(&c, 9, d, p) == AGC2_CHANNEL_COUNT);
+        refused_making_with(1, d, p, AGC2_PREDICTOR_WINDOWS);
+        refused_making_with(9, d, p, AGC2_CHANNEL_COUNT);
         d.speech_ratio_threshold = 2.0f;
-        CHECK(agc2_new_with_predictor(&c, 1, d, p) == AGC2_SPEECH_THRESHOLD);
+        refused_making_with(1, d, p, AGC2_SPEECH_THRESHOLD);
         d.speech_ratio_threshold = 0.5f;
         p.window_length = 1;
         p.reference_window_length = p.reference_window_delay = INT32_MAX;
-        CHECK(agc2_new_with_predictor(&c, 1, d, p) == AGC2_PREDICTOR_CAPACITY);
+        refused_making_with(1, d, p, AGC2_PREDICTOR_CAPACITY);
         p = agc2_default_predictor_config();
         p.clipping_threshold = -200001;
-        CHECK(agc2_new_with_predictor(&c, 1, d, p) == AGC2_PREDICTOR_LEVELS);
+        refused_making_with(1, d, p, AGC2_PREDICTOR_LEVELS);
     }
-    CHECK(memcmp(&c, &before, sizeof c) == 0);
     CHECK(strcmp(agc2_words(AGC2_PREDICTOR_CAPACITY), "predictor delay + reference above 64") == 0);
     p = agc2_default_predictor_config();
     p.mode = UINT32_MAX;
     CHECK(agc2_new_with_predictor(&c, 1, agc2_default_config(), p) == 0);
     p.mode = AGC2_FIXED_STEP_CLIPPING_PEAK_PREDICTION;
-    CHECK(agc2_new_with_predictor(&before, 1, agc2_default_config(), p) == 0 && memcmp(&c, &before, sizeof c) == 0);
+    CHECK(agc2_new_with_predictor(&other, 1, agc2_default_config(), p) == 0 && memcmp(&c, &other, sizeof c) == 0);
 }
 
 /* Any number but 0 is a yes. */
@@ -1087,8 +1119,142 @@ static void speech(void) {
     CHECK(highest > 100);
 }
 
+/* ---- samples as devices give them */
+
+enum { MOST = AGC2_MAX_CHANNELS * AGC2_MAX_SAMPLES_PER_CHANNEL };
+
+/* What a device gives for one frame, and the frame that is meant: with room for a channel and a sample too many, since those are given too. */
+static int16_t interleaved[MOST + 1];
+static float apart[AGC2_MAX_CHANNELS + 1][AGC2_MAX_SAMPLES_PER_CHANNEL + 1], meant[(AGC2_MAX_CHANNELS + 1) * (AGC2_MAX_SAMPLES_PER_CHANNEL + 1)];
+static const float *const channels_apart[AGC2_MAX_CHANNELS + 1] = {apart[0], apart[1], apart[2], apart[3], apart[4], apart[5], apart[6], apart[7], apart[8]};
+
+/* Interleaved samples, and on a copy the frame that they mean, put in order by hand: equal answers, and equal bytes after them. */
+static uint32_t through_interleaved(agc2_controller *c, int32_t volume, size_t samples_per_channel, size_t count) {
+    agc2_controller plain = *c;
+    size_t channels = samples_per_channel != 0 ? count / samples_per_channel : 0;
+    for (size_t k = 0; k < channels * samples_per_channel; k++) {
+        meant[k % channels * samples_per_channel + k / channels] = interleaved[k];
+    }
+    uint32_t answer = agc2_analyze_interleaved_i16(c, volume, samples_per_channel, interleaved, count);
+    CHECK(answer == agc2_analyze_input_audio(&plain, volume, samples_per_channel, meant, count) && memcmp(c, &plain, sizeof plain) == 0);
+    return answer;
+}
+
+/* The same of channels that stand apart, as they are or from -1.0 to 1.0. Where they are more than are here, no frame is so large: the answer is that to one of as many samples per channel as there are numbers. */
+static uint32_t through_channels(agc2_controller *c, int unit, int32_t volume, size_t samples_per_channel, size_t channel_count) {
+    agc2_controller plain = *c;
+    int here = samples_per_channel <= AGC2_MAX_SAMPLES_PER_CHANNEL + 1 && channel_count <= AGC2_MAX_CHANNELS + 1;
+    size_t count = here ? channel_count * samples_per_channel : 0;
+    for (size_t k = 0; k < count; k++) {
+        meant[k] = apart[k / samples_per_channel][k % samples_per_channel] * (unit ? 32768.0f : 1.0f);
+    }
+    uint32_t answer = unit ? agc2_analyze_unit_channels(c, volume, samples_per_channel, channels_apart, channel_count)
+                           : agc2_analyze_channels(c, volume, samples_per_channel, channels_apart, channel_count);
+    CHECK(answer == agc2_analyze_input_audio(&plain, volume, here ? samples_per_channel : SIZE_MAX, meant, count) && memcmp(c, &plain, sizeof plain) == 0);
+    return answer;
+}
+
+/* Loud or quiet, some with a sample that is none. */
+static void any_sound(uint32_t *seed, float peak) {
+    static const float odd[6] = {NAN, INFINITY, -INFINITY, 3e38f, -0.0f, 0x1p-149f};
+    float loud = below(seed, 3) ? peak * 0.02f : peak;
+    for (size_t k = 0; k < MOST + 1; k++) {
+        interleaved[k] = (int16_t)((int32_t)below(seed, 65536) - 32768);
+    }
+    for (size_t c = 0; c < AGC2_MAX_CHANNELS + 1; c++) {
+        for (size_t i = 0; i < AGC2_MAX_SAMPLES_PER_CHANNEL + 1; i++) {
+            apart[c][i] = loud * ((float)below(seed, 2001) / 1000.0f - 1.0f);
+        }
+    }
+    if (below(seed, 8) == 0) {
+        apart[below(seed, 8)][0] = odd[below(seed, 6)];
+    }
+}
+
+/* Through the three entries in turn on one controller; now and then there is a channel more or less, or a sample more. */
+static void devices_frames_are_those_meant(void) {
+    static agc2_controller c;
+    uint32_t seed = 16, answers[21] = {0};
+    for (int32_t channels = 1; channels <= 8; channels++) {
+        agc2_config d = agc2_default_config();
+        d.clipped_wait_frames = channels;
+        CHECK(agc2_new(&c, channels, d) == 0);
+        for (int k = 0; k < 300; k++) {
+            size_t samples = below(&seed, 4) ? 1 + below(&seed, 480) : 480, fault = below(&seed, 24);
+            size_t channel_count = (size_t)channels + (fault == 0 && channels < 8) - (fault == 1);
+            int32_t volume = (int32_t)below(&seed, 270) - 7, recommended;
+            float level = (float)below(&seed, 90) - 90.0f;
+            any_sound(&seed, k % 3 == 2 ? 1.0f : 32768.0f);
+            answers[k % 3 == 0 ? through_interleaved(&c, volume, samples, channel_count * samples + (fault == 2)) : through_channels(&c, k % 3 == 2, volume, samples, channel_count)]++;
+            agc2_recommend_input_volume(&c, 0.9f, &level, &recommended);
+        }
+    }
+    CHECK(answers[AGC2_ACCEPTED] > 1000 && answers[AGC2_INPUT_VOLUME] > 50 && answers[AGC2_FRAME_SIZE] > 50);
+}
+
+/* All 65,536 at once through the converter, and in frames of eight channels, each on a controller that keeps its records. */
+static void every_16_bit_value(void) {
+    static int16_t every[65536];
+    static float ordered[65536];
+    for (int32_t k = 0; k < 65536; k++) {
+        every[k] = (int16_t)(k - 32768);
+    }
+    agc2_frame_of_interleaved_i16(8, every, 65536, ordered, 65536);
+    for (int32_t k = 0; k < 65536; k++) {
+        CHECK(ordered[k % 8 * 8192 + k / 8] == (float)(k - 32768));
+    }
+    for (size_t start = 0; start < 65536; start += MOST) {
+        agc2_controller c = with_rings_left(8);
+        size_t count = 65536 - start < MOST ? 65536 - start : MOST;
+        memcpy(interleaved, every + start, count * sizeof *every);
+        CHECK(through_interleaved(&c, 100, count / 8, count) == AGC2_ACCEPTED && agc2_stored_record(&c, 7, 0).present == 1);
+    }
+}
+
+/* Nothing is written where the room is too small, and never more than was asked for. */
+static void converters_keep_to_their_room(void) {
+    static const int16_t seven[7] = {1, 2, 3, 4, 5, 6, 7};
+    static const float units[3] = {1.0f, -1.0f, 3e38f}, untouched[7] = {9, 9, 9, 9, 9, 9, 9}, two_of_three[7] = {1, 4, 2, 5, 3, 6, 9};
+    float frame[7];
+    memcpy(frame, untouched, sizeof frame);
+    agc2_frame_of_interleaved_i16(0, seven, 7, frame, 7);
+    agc2_frame_of_interleaved_i16(8, seven, 7, frame, 7);
+    agc2_frame_of_interleaved_i16(SIZE_MAX, seven, 7, frame, 7);
+    agc2_frame_of_interleaved_i16(3, seven, 7, frame, 5);
+    agc2_frame_of_unit(units, 3, frame, 2);
+    CHECK(memcmp(frame, untouched, sizeof frame) == 0);
+    agc2_frame_of_interleaved_i16(3, seven, 7, frame, 6);
+    CHECK(memcmp(frame, two_of_three, sizeof frame) == 0);
+    agc2_frame_of_unit(units, 3, frame, 3);
+    CHECK(frame[0] == 32768.0f && frame[1] == -32768.0f && frame[2] == INFINITY && frame[3] == 5.0f);
+}
+
+/* 8 comes before 9, whatever else is wrong: no samples or channels, too many of them, counts that are no multiple, and counts whose product is beyond all numbers, or within them again. */
+static void device_refusals(void) {
+    static const struct {
+        size_t samples_per_channel, channel_count, spare;
+        uint32_t refusal;
+    } cases[] = {
+        {480, 2, 0, AGC2_ACCEPTED}, {1, 2, 0, AGC2_ACCEPTED}, {0, 0, 0, AGC2_FRAME_SIZE}, {0, 2, 0, AGC2_FRAME_SIZE}, {0, 0, 5, AGC2_FRAME_SIZE}, {1, 0, 0, AGC2_FRAME_SIZE}, {480, 1, 0, AGC2_FRAME_SIZE},
+        {1, 3, 0, AGC2_FRAME_SIZE}, {480, 8, 0, AGC2_FRAME_SIZE}, {1, 9, 0, AGC2_FRAME_SIZE}, {481, 2, 0, AGC2_FRAME_SIZE}, {7, 2, 1, AGC2_FRAME_SIZE}, {480, 1, 479, AGC2_FRAME_SIZE}, {480, 8, 1, AGC2_FRAME_SIZE},
+        {SIZE_MAX, 2, 0, AGC2_FRAME_SIZE}, {SIZE_MAX, SIZE_MAX, 0, AGC2_FRAME_SIZE}, {480, SIZE_MAX / 480 + 3, 0, AGC2_FRAME_SIZE}, {SIZE_MAX / 2 + 2, 2, 0, AGC2_FRAME_SIZE},
+    };
+    static const int32_t volumes[3] = {200, -1, 256};
+    for (size_t i = 0; i < sizeof cases / sizeof cases[0]; i++) {
+        size_t samples = cases[i].samples_per_channel, channel_count = cases[i].channel_count, count = channel_count * samples + cases[i].spare;
+        for (int k = 0; k < 3; k++) {
+            uint32_t refusal = k == 0 ? cases[i].refusal : AGC2_INPUT_VOLUME;
+            agc2_controller c;
+            CHECK(agc2_new(&c, 2, agc2_default_config()) == 0);
+            CHECK(count > MOST + 1 || samples > MOST || through_interleaved(&c, volumes[k], samples, count) == refusal);
+            CHECK(cases[i].spare != 0 || (through_channels(&c, 0, volumes[k], samples, channel_count) == refusal && through_channels(&c, 1, volumes[k], samples, channel_count) == refusal));
+        }
+    }
+}
+
 int main(void) {
     sizes_are_those_the_archive_states();
+    versions_agree();
     makings_write_a_controller();
     sizes_are_those_the_archive_writes();
     equal_histories_have_equal_bytes();
@@ -1115,6 +1281,10 @@ int main(void) {
     mean_and_peak();
     stretch_after_clipping();
     speech();
+    devices_frames_are_those_meant();
+    every_16_bit_value();
+    converters_keep_to_their_room();
+    device_refusals();
     printf("c: %d checks hold; a controller has %zu bytes\n", checks, sizeof(agc2_controller));
     return 0;
 }
