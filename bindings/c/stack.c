@@ -17,6 +17,8 @@ static agc2_controller controller;
 static agc2_config config, classroom_config;
 static agc2_predictor_config predictor;
 static float samples[AGC2_MAX_CHANNELS * AGC2_MAX_SAMPLES_PER_CHANNEL];
+static int16_t interleaved[AGC2_MAX_CHANNELS * AGC2_MAX_SAMPLES_PER_CHANNEL];
+static const float *const parts[AGC2_MAX_CHANNELS] = {samples, samples + 480, samples + 960, samples + 1440, samples + 1920, samples + 2400, samples + 2880, samples + 3360};
 static int32_t channels, volume, volumes[AGC2_MAX_CHANNELS], recommended;
 static size_t samples_per_channel;
 static float level;
@@ -47,6 +49,14 @@ __attribute__((noinline)) static void framed_short(void) {
 __attribute__((noinline)) static void framed_short_each(void) {
     sink = agc2_spotter_analyze_input_audio_each(&controller, volumes, (size_t)channels, samples_per_channel / 3, samples, (size_t)channels * AGC2_SPOTTER_MAX_SAMPLES_PER_CHANNEL);
 }
+
+__attribute__((noinline)) static void framed_interleaved(void) {
+    sink = agc2_analyze_interleaved_i16(&controller, volume, samples_per_channel, interleaved, (size_t)channels * AGC2_MAX_SAMPLES_PER_CHANNEL);
+}
+
+__attribute__((noinline)) static void framed_apart(void) { sink = agc2_analyze_channels(&controller, volume, samples_per_channel, parts, (size_t)channels); }
+
+__attribute__((noinline)) static void framed_unit(void) { sink = agc2_analyze_unit_channels(&controller, volume, samples_per_channel, parts, (size_t)channels); }
 
 __attribute__((noinline)) static void recommend(void) { sink = agc2_recommend_input_volume(&controller, 1.0f, &level, &recommended); }
 
@@ -88,7 +98,7 @@ static void most(long *seen, call f) {
 
 /* ---- random calls */
 
-enum { NEW, NEW_WITH, CLASSROOM, CLASSROOM_WITH, FRAME, FRAME_EACH, SHORT, SHORT_EACH, RECOMMEND, INITIALIZE, SWITCH, STORED, METRICS, CALLS };
+enum { NEW, NEW_WITH, CLASSROOM, CLASSROOM_WITH, FRAME, FRAME_EACH, SHORT, SHORT_EACH, INTERLEAVED, APART, UNIT, RECOMMEND, INITIALIZE, SWITCH, STORED, METRICS, CALLS };
 
 /* Some of the classroom's are outside its profile. */
 static void settings(void) {
@@ -112,6 +122,7 @@ static void sound(void) {
     int apart = 1 + rand() % 400;
     for (int i = 0; i < AGC2_MAX_CHANNELS * AGC2_MAX_SAMPLES_PER_CHANNEL; i++) {
         samples[i] = i % apart != 0 ? (float)(rand() % 200) : peak;
+        interleaved[i] = (int16_t)(samples[i] < 32767.0f ? samples[i] : 32767.0f);
     }
     volume = rand() % 10 != 0 ? 200 : rand() % 257;
     for (int i = 0; i < AGC2_MAX_CHANNELS; i++) {
@@ -123,8 +134,9 @@ static void sound(void) {
 
 int main(void) {
     static const char *const names[CALLS] = {"agc2_new", "agc2_new_with_predictor", "agc2_new_classroom", "agc2_new_classroom_with_predictor", "a frame", "a frame with a set", "a frame of the spotter",
-                                             "a frame of the spotter with a set", "a recommendation", "initialise", "the capture switch", "agc2_stored_record", "agc2_compute_partial_metrics"};
-    static const long bounds[CALLS] = {14200, 14200, 14200, 14200, 22700, 22700, 22700, 22700, 1900, 1900, 1900, 14200, 14200};
+                                             "a frame of the spotter with a set", "agc2_analyze_interleaved_i16", "agc2_analyze_channels", "agc2_analyze_unit_channels", "a recommendation", "initialise",
+                                             "the capture switch", "agc2_stored_record", "agc2_compute_partial_metrics"};
+    static const long bounds[CALLS] = {14200, 14200, 14200, 14200, 22700, 22700, 22700, 22700, 38200, 38200, 38200, 1900, 1900, 1900, 14200, 14200};
     long seen[CALLS] = {0};
     stack = aligned_alloc(4096, SIZE);
     srand(7);
@@ -141,6 +153,9 @@ int main(void) {
             most(&seen[FRAME_EACH], framed_each);
             most(&seen[SHORT], framed_short);
             most(&seen[SHORT_EACH], framed_short_each);
+            most(&seen[INTERLEAVED], framed_interleaved);
+            most(&seen[APART], framed_apart);
+            most(&seen[UNIT], framed_unit);
             most(&seen[RECOMMEND], recommend);
         }
         most(&seen[INITIALIZE], initialized);
