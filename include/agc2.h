@@ -12,16 +12,16 @@
  * A frame is 10 ms of sound, at up to 48 kHz, as floats on the 16-bit scale, -32768 to 32767. Samples from -1.0 to 1.0 are all but silence on it and never clip: these, and 16-bit samples, have entries of
  * their own (agc2_analyze_unit_channels, agc2_analyze_interleaved_i16).
  *
- * A call answers 0, or the number of its refusal (agc2_words), and a refused call leaves the controller's state, the words in it, as it was, byte for byte. In front of the state stand
- * the last answers: a frame, refused or not, writes `refusal` and `near` and sets `present` and `volume` to 0; a recommendation writes `present` and `volume`.
+ * A call answers 0, or the number of its refusal (agc2_words), and a refused call leaves the controller's state, the words in it, as it was, byte for byte; but a making writes a controller in any case.
+ * In front of the state stand the last answers: a frame, refused or not, writes `refusal` and `near` and sets `present` and `volume` to 0; a recommendation writes `present` and `volume`.
  *
  * No argument is out of bounds but two kinds: a pointer must be valid, with as many samples or volumes behind it as the count says, none of them within the controller; and a controller
  * must be one that a making (agc2_new, agc2_new_with_predictor, agc2_new_classroom, agc2_new_classroom_with_predictor) wrote and that nobody else wrote to. A controller has no pointer in it and
  * may be copied and moved; two threads must not use one at once.
  * The proofs take floats to work as they do by default: rounded to nearest, with no subnormal number flushed to zero.
  *
- * The stack that a call needs, as measured with clang and gcc at -O0 and -O2: 22.7 KB for a frame, 14.2 KB for a making, agc2_stored_record and agc2_compute_partial_metrics, 1.9 KB for any other
- * (bindings/c/stack.c); where memcpy is bound late, the first call needs 3 KB more. */
+ * The stack that a call needs, as measured with clang and gcc at -O0 and -O2: 22.7 KB for a frame, 38.2 KB for one that is put in a frame's order first, 14.2 KB for a making, agc2_stored_record and
+ * agc2_compute_partial_metrics, 1.9 KB for any other (bindings/c/stack.c); where memcpy is bound late, the first call needs 3 KB more. */
 #ifndef AGC2_H
 #define AGC2_H
 
@@ -57,8 +57,8 @@ enum { AGC2_PLAIN = 0, AGC2_CLASSROOM = 1 };
 /* What a frame through the word spotter's entry has at most. */
 enum { AGC2_SPOTTER_MAX_CHANNELS = 2, AGC2_SPOTTER_MAX_SAMPLES_PER_CHANNEL = 160 };
 
-/* The refusals of these calls: agc2_new has 1 to 6, agc2_new_with_predictor 7, 14 and 15 besides, each of these two for a classroom 19 besides, agc2_analyze_input_audio 8 and 9,
- * agc2_analyze_input_audio_each 20 besides, the spotter's two 18 besides, agc2_compute_partial_metrics 11. */
+/* The refusals of these calls: agc2_new has 1 to 6, agc2_new_with_predictor 7, 14 and 15 besides, each of these two for a classroom 19 besides, agc2_analyze_input_audio and the three
+ * for samples as devices give them 8 and 9, agc2_analyze_input_audio_each 20 besides, the spotter's two 18 besides, agc2_compute_partial_metrics 11. */
 enum {
     AGC2_ACCEPTED = 0,
     AGC2_CHANNEL_COUNT = 1,
@@ -208,7 +208,7 @@ AGC2_ANSWER_MATTERS AGC2_CALL uint32_t agc2_new_in_profile(agc2_controller *cont
 /* ---- the calls */
 
 /* A controller of 1 to 8 channels with a predictor of any mode, and its own windows, threshold and margin; or a refusal. Refused, *controller is one of one channel with the default settings, which works,
- * and has the refusal's number in `refusal`: so no making leaves bytes that no call may have. First come 1 to 6, and then, whether the predictor is on or off, 7, 14 and 15: window and reference are
+ * and has the refusal's number in `refusal`: so no call meets bytes that are no controller. First come 1 to 6, and then, whether the predictor is on or off, 7, 14 and 15: window and reference are
  * at least 1 frame, the delay of the reference is at least 0, delay + reference above the window (7) and at most 64 (14), threshold and margin are from -200,000 to 200,000 (15).
  *
  *     agc2_predictor_config predictor = agc2_default_predictor_config();
@@ -289,13 +289,13 @@ void agc2_frame_of_interleaved_i16(size_t channels, const int16_t *samples, size
 /* Samples from -1.0 to 1.0, each times 32,768, which is exact but for what exceeds the largest float; or nothing is written, where room is less than count. 1.0 is clipped then, as -1.0 is. */
 void agc2_frame_of_unit(const float *samples, size_t count, float *frame, size_t room);
 
-/* The frame that a call below put in `frame`, or that did not fit there. No controller takes one that does not, and so it stands for it that there are no samples: the definition refuses either with 8 if the
- * volume is wrong, else with 9. */
+/* The frame that one of the calls below put together. One that does not fit there is larger than any controller takes, and a frame of no samples is handed on for it: the definition refuses both
+ * with 8 if the volume is wrong, and else with 9. */
 static inline uint32_t agc2_analyze_converted(agc2_controller *controller, int32_t applied_input_volume, size_t samples_per_channel, const float *frame, size_t count, int fits) {
     return agc2_analyze_input_audio(controller, applied_input_volume, fits ? samples_per_channel : 0, frame, fits ? count : 0);
 }
 
-/* Tested one by one, since the product of two such numbers may be any. */
+/* Each is tested, since their product may be too large for its type. */
 static inline int agc2_channels_fit(size_t samples_per_channel, size_t channel_count) {
     return samples_per_channel <= AGC2_MAX_SAMPLES_PER_CHANNEL && channel_count <= AGC2_MAX_CHANNELS;
 }
