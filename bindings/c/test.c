@@ -446,7 +446,7 @@ static int in_classroom(agc2_config c) {
            c.clipped_wait_frames >= 100 && c.update_input_volume_wait_frames >= 100 && c.clipped_ratio_threshold >= 0.0f && c.clipped_ratio_threshold <= 1.0f;
 }
 
-/* What a making of the classroom left in a controller of bytes 0x55, and the whole that the archive hands back, are equal in all bytes: accepted the plain controller, else what stands for a refusal. */
+/* What a making of the classroom left in a controller of bytes 0x55, and the whole that the archive hands back, are equal: accepted the plain controller in all bytes, else what a refusal leaves. */
 static void made_as_answered(uint32_t answer, const agc2_controller *left, const agc2_controller *whole, const agc2_controller *plain) {
     CHECK(memcmp(left, whole, sizeof *left) == 0);
     if (answer == AGC2_ACCEPTED) {
@@ -1235,9 +1235,9 @@ static void device_refusals(void) {
         size_t samples_per_channel, channel_count, spare;
         uint32_t refusal;
     } cases[] = {
-        {480, 2, 0, AGC2_ACCEPTED},   {1, 2, 0, AGC2_ACCEPTED},     {0, 0, 0, AGC2_FRAME_SIZE},   {0, 2, 0, AGC2_FRAME_SIZE}, {0, 0, 5, AGC2_FRAME_SIZE},     {1, 0, 0, AGC2_FRAME_SIZE},
-        {480, 1, 0, AGC2_FRAME_SIZE}, {1, 3, 0, AGC2_FRAME_SIZE},   {480, 8, 0, AGC2_FRAME_SIZE}, {1, 9, 0, AGC2_FRAME_SIZE}, {481, 2, 0, AGC2_FRAME_SIZE},   {7, 2, 1, AGC2_FRAME_SIZE},
-        {480, 8, 1, AGC2_FRAME_SIZE}, {480, 1, 479, AGC2_FRAME_SIZE}, {SIZE_MAX, 2, 0, AGC2_FRAME_SIZE}, {SIZE_MAX, SIZE_MAX, 0, AGC2_FRAME_SIZE},
+        {480, 2, 0, AGC2_ACCEPTED}, {1, 2, 0, AGC2_ACCEPTED}, {0, 0, 0, AGC2_FRAME_SIZE}, {0, 2, 0, AGC2_FRAME_SIZE}, {0, 0, 5, AGC2_FRAME_SIZE}, {1, 0, 0, AGC2_FRAME_SIZE},
+        {480, 1, 0, AGC2_FRAME_SIZE}, {1, 3, 0, AGC2_FRAME_SIZE}, {480, 8, 0, AGC2_FRAME_SIZE}, {1, 9, 0, AGC2_FRAME_SIZE}, {480, 9, 0, AGC2_FRAME_SIZE}, {481, 2, 0, AGC2_FRAME_SIZE},
+        {481, 8, 0, AGC2_FRAME_SIZE}, {7, 2, 1, AGC2_FRAME_SIZE}, {480, 8, 1, AGC2_FRAME_SIZE}, {480, 1, 479, AGC2_FRAME_SIZE}, {SIZE_MAX, 2, 0, AGC2_FRAME_SIZE}, {SIZE_MAX, SIZE_MAX, 0, AGC2_FRAME_SIZE},
         {480, SIZE_MAX / 480 + 3, 0, AGC2_FRAME_SIZE}, {SIZE_MAX / 2 + 2, 2, 0, AGC2_FRAME_SIZE},
     };
     static const int32_t volumes[3] = {200, -1, 256};

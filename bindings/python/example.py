@@ -1,5 +1,4 @@
 """The shared library from Python, which cannot read the header: a sound that clips lowers the volume. Usage: example.py [libagc2.so]"""
-import ctypes
 import ctypes.util
 import sys
 
@@ -14,6 +13,9 @@ class Config(ctypes.Structure):
 
 
 agc2 = ctypes.CDLL(sys.argv[1] if len(sys.argv) > 1 else ctypes.util.find_library("agc2") or "libagc2.so.1")
+# only a library of the layout that is written down here has this name; the sixth of its numbers is the size of a Config
+agc2.agc2_layout_1.restype = type("Layout", (ctypes.Structure,), {"_fields_": [("numbers", ctypes.c_uint32 * 9)]})
+assert agc2.agc2_layout_1().numbers[5] == ctypes.sizeof(Config)
 agc2.agc2_controller_size.restype = ctypes.c_size_t
 agc2.agc2_default_config.restype = Config
 agc2.agc2_new.argtypes = [ctypes.c_void_p, ctypes.c_int32, Config]
