@@ -295,6 +295,9 @@ EDITS = [
         (IVC + "Frame.antt", "use mathlib.Core.Bool.{Bool, true, false, _||_}", "use mathlib.Core.Bool.{Bool, true, false, _||_, _&&_}"),
         (IVC + "Frame.antt", "(lt (c .control .settings .«clipped_ratio») " + RATIO + ")",
          "(lt (lib.Ieee.ofInt lib.Ieee.binary32 (lib.IntN.pos 0)) " + RATIO + " && lt (c .control .settings .«clipped_ratio») " + RATIO + ")")]),
+    # ---- samples as devices give them
+    ("a full scale of 32,767", "SamplesAreExact", [
+        (LIBRARY + "Samples.antt", "fullScale = ofInt binary32 (pos 32768)", "fullScale = ofInt binary32 (pos 32767)")]),
 ]
 
 
