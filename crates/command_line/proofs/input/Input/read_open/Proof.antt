@@ -62,7 +62,7 @@ same-length-4 : tie.Need-same-length-4
 same-length-4 c = search needs
 
 returns-4 : tie.Need-returns-4
-returns-4 c = search needs
+returns-4 c = c .before .count .ensures .0
 
 pub read-open-spec : {M : Type 1} → statement M
 read-open-spec =
