@@ -1,13 +1,12 @@
 -- `agc2::samples::agc2_frame_of_unit` meets its contract: each turn writes one sample more. Assumes nothing.
-use mathlib.Core.Path.{_≡_, ap, _∙_}
+use mathlib.Core.Path.{_≡_}
 use mathlib.Core.List.{List}
 use Prim.Native.Nat.{_-_, _≤_}
 use native.Mathlib.Omega.{arith}
 use lib.Ieee.{Float, nan, ofBits, ofInt}
 use lib.ListN.{length, length-map}
-use lib.Seq.{paste}
 use Rattle.agc2.specs.Samples.{scaled, unitFrame}
-use Rattle.agc2.proofs.Interleaved.{Written, starts, goes-on, same-length as kept-length, laid-all, not-laid, getD-map}
+use Rattle.agc2.proofs.Interleaved.{Written, starts, goes-on, same-length as kept-length, written-all, not-laid, getD-map}
 use borrow.Author.Needs.{needs}
 use Rattle.agc2.proofs.samples.agc2_frame_of_unit.Statement.{statement}
 use Rattle.agc2.proofs.samples.agc2_frame_of_unit.Tie as tie
@@ -69,8 +68,7 @@ same-length c = frame-length (c .before)
 returns-2 : tie.Need-returns-2 Inv-loop μ-loop
 returns-2 c =
     let s = c .before .before .before in
-    let all : c .before .loop .k ≡ length (unitFrame (s .args .samples .now)) = omega (arith, c .before .loop .inv .within, count (s .args .samples .now)) in
-    c .before .loop .inv .is ∙ ap (paste (s .args .frame .now) 0 (unitFrame (s .args .samples .now))) all ∙ laid-all (s .args .frame .now) (unitFrame (s .args .samples .now)) (whole (c .before))
+    written-all (s .args .frame .now) (unitFrame (s .args .samples .now)) _ _ (c .before .loop .inv) (omega (arith, count (s .args .samples .now))) (whole (c .before))
 
 pub agc2-frame-of-unit-spec : {M : Type 1} → statement M
 agc2-frame-of-unit-spec =

@@ -1,108 +1,93 @@
--- `agc2::samples::separate` meets its contract: each turn writes one sample more, and goes on to the place of the next. Assumes nothing.
-use mathlib.Core.Path.{_≡_, sym, ap, _∙_}
-use Prim.Native.Nat.{_+_, _-_, _*_, _≤_, _<_}
-use mathlib.Core.Logic.{⊎-elim}
-use native.Mathlib.Nat.{div-mul-le-self}
+-- `agc2::samples::separate` meets its contract: each turn writes one channel more. Assumes nothing.
+use mathlib.Core.Path.{_≡_, refl, sym, ap, _∙_}
+use mathlib.Core.List.{List, _++_}
+use Prim.Native.Nat.{ℕ, _+_, _-_, _*_, _≤_, _<_}
+use native.Mathlib.Nat.{mul-comm, zero-mul}
 use native.Mathlib.Omega.{arith}
-use lib.Ieee.{nan}
-use lib.ListN.{length}
-use lib.Seq.{paste}
-use Rattle.agc2.specs.Samples.{moments, interleavedPlace, interleavedFrame}
-use Rattle.agc2.proofs.Interleaved.{Written, starts, goes-on, same-length as kept-length, place-zero, some-moment, place-within, channels-within, length-interleaved, sample-at, next-place}
+use lib.ListN.{length, take, drop}
+use Rattle.agc2.specs.Samples.{channelOf, joined}
+use Rattle.agc2.proofs.Interleaved.{length-channel, joined-next, kept-joined, part-within, channels-within, part-moments}
 use borrow.Author.Needs.{needs}
 use Rattle.agc2.proofs.samples.separate.Statement.{statement}
 use Rattle.agc2.proofs.samples.separate.Tie as tie
 
 abbrev Inv-loop : tie.InvT-loop
-Inv-loop channels samples total frame₀ at₀ k₀ frame at k = Written frame₀ (interleavedFrame channels samples) frame k × (at ≡ interleavedPlace channels (moments channels samples) k)
+Inv-loop channels moments samples frame₀ channel₀ frame channel = (channel ≤ channels) × (frame ≡ joined (channelOf channels moments samples) channel ++ drop (channel * moments) frame₀)
 
 abbrev μ-loop : tie.MeasureT-loop
-μ-loop channels samples total frame₀ at₀ k₀ frame at k = total - k
+μ-loop channels moments samples frame₀ channel₀ frame channel = channels - channel
 
--- where the loop is: within the frame, and so within the samples
-below : (c : tie.In-loop Inv-loop μ-loop) → c .before .loop .k < moments (c .before .before .args .channels) (c .before .before .args .samples .now) * c .before .before .args .channels
-below c = omega (arith, c .before .before .pre .1)
+-- a part is within the frame and, as many moments, within the samples
+into : (c : tie.In-loop Inv-loop μ-loop) → let s = c .before .before .before .args in c .before .loop .channel * s .moments + s .moments ≤ s .moments * s .channels
+into c = part-within _ _ _ (omega arith)
 
-place : (c : tie.In-loop Inv-loop μ-loop) → c .before .loop .at < c .before .before .args .total
-place c =
+frame-length : (c : tie.At-loop Inv-loop μ-loop) → length (c .loop .frame) ≡ length (c .before .before .args .frame .now)
+frame-length c =
     let s = c .before .before in
-    omega (arith, s .pre .1, c .before .loop .inv .1, place-within (s .args .channels) (moments (s .args .channels) (s .args .samples .now)) (c .before .loop .k) (below c) (some-moment (s .args .channels) _ _ (below c)))
+    ap length (c .loop .inv .1)
+    ∙ kept-joined (channelOf (s .args .channels) (s .args .moments) (s .args .samples .now)) (s .args .moments) (length-channel (s .args .channels) (s .args .moments) (s .args .samples .now)) (s .args .frame .now) (c .loop .channel)
+    (omega (arith, channels-within (s .args .channels) (s .args .moments) (c .loop .channel) (c .loop .inv .0), s .pre .1))
 
-at-below : (c : tie.In-loop Inv-loop μ-loop) → c .before .loop .at < length (c .before .before .args .samples .now)
-at-below c =
-    let s = c .before .before in
-    omega (arith, place c, s .pre .1, div-mul-le-self (length (s .args .samples .now)) (s .args .channels))
+of-part : (c : tie.In-loop Inv-loop μ-loop) → c .before .loop .channel * c .before .before .before .args .moments + c .before .before .before .args .moments ≤ length (c .before .loop .frame)
+of-part c = omega (arith, into c, frame-length (c .before), c .before .before .before .pre .1)
+
+of-samples : (c : tie.In-loop Inv-loop μ-loop) → c .before .loop .channel * c .before .before .before .args .moments + c .before .before .before .args .moments ≤ length (c .before .before .before .args .samples .now)
+of-samples c = omega (arith, into c, c .before .before .before .pre .0)
 
 loop-holds : tie.Need-loop-holds Inv-loop μ-loop
-loop-holds c = (starts _ _, sym (place-zero _ _))
+unfolding joined
+loop-holds c = (omega arith, ap (λ (k : ℕ). drop k (c .before .args .frame .now)) (sym (zero-mul (c .before .args .moments))))
 
-mul-frame : tie.Need-mul-frame Inv-loop μ-loop
-mul-frame c = let h = at-below c in search needs
+mul-from : tie.Need-mul-from Inv-loop μ-loop
+mul-from c = let h = of-samples c in search needs
 
-shared-slice-copy-out-frame : tie.Need-shared-slice-copy-out-frame Inv-loop μ-loop
-shared-slice-copy-out-frame c = at-below c
+add-to : tie.Need-add-to Inv-loop μ-loop
+add-to c = let h = of-samples c in search needs
 
-int-to-float-frame : tie.Need-int-to-float-frame Inv-loop μ-loop
-int-to-float-frame c = search needs
+mul-take-channel : tie.Need-mul-take-channel Inv-loop μ-loop
+mul-take-channel c = let h = of-samples c in search needs
 
--- the frame has room
-whole : (c : tie.At-loop Inv-loop μ-loop) → length (interleavedFrame (c .before .args .channels) (c .before .args .samples .now)) ≤ length (c .before .args .frame .now)
-whole c =
-    let s = c .before in
-    omega (arith, length-interleaved (s .args .channels) (s .args .samples .now), s .pre .1, s .pre .2)
+sub-take-channel : tie.Need-sub-take-channel Inv-loop μ-loop
+sub-take-channel c = search needs
 
-frame-length : (c : tie.At-loop Inv-loop μ-loop) → length (c .loop .frame) ≡ length (c .before .args .frame .now)
-frame-length c = kept-length _ _ _ _ (c .loop .inv .0) (whole c)
+part-take-channel-start : tie.Need-part-take-channel-start Inv-loop μ-loop
+part-take-channel-start c = search needs
 
-mul-frame-2 : tie.Need-mul-frame-2 Inv-loop μ-loop
-mul-frame-2 c = search needs
+part-take-channel-end : tie.Need-part-take-channel-end Inv-loop μ-loop
+part-take-channel-end c = of-part c
 
-slice-write-frame : tie.Need-slice-write-frame Inv-loop μ-loop
-slice-write-frame c =
-    let l = c .before .before .before in
-    omega (arith, frame-length l, l .before .pre .2)
-
-add-at : tie.Need-add-at Inv-loop μ-loop
-add-at c =
+-- the part that is lent
+lent : (c : tie.After-take-channel-arg Inv-loop μ-loop) →
+    let l = c .before .before in
+    let s = l .before .before .args in
+    let from = l .loop .channel * s .moments in
+    let part = take (from + s .moments - from) (drop from (l .loop .frame)) in
+    (length part ≡ s .moments) × (length part * s .channels ≤ length (s .samples .now))
+lent c =
     let l = c .before .before in
     let s = l .before .before in
-    let at = at-below l in
-    let of-moment = channels-within (s .args .channels) (moments (s .args .channels) (s .args .samples .now)) (l .before .loop .k) (below l) (some-moment (s .args .channels) _ _ (below l)) in
-    let within = div-mul-le-self (length (s .args .samples .now)) (s .args .channels) in
-    search needs
+    let from = l .loop .channel * s .args .moments in
+    part-moments (s .args .channels) (s .args .moments) from (from + s .args .moments - from) (length (s .args .samples .now)) (l .loop .frame) (omega arith) (s .pre .0) (of-part (c .before))
 
-sub-at : tie.Need-sub-at Inv-loop μ-loop
-sub-at c = search needs
+take-channel-requires : tie.Need-take-channel-requires Inv-loop μ-loop
+take-channel-requires c κs = (omega arith, lent c .1)
 
-sub-at-2 : tie.Need-sub-at-2 Inv-loop μ-loop
-sub-at-2 c = search needs
-
-add-k : tie.Need-add-k Inv-loop μ-loop
-add-k c = search needs
+add-channel : tie.Need-add-channel Inv-loop μ-loop
+add-channel c = search needs
 
 loop-less : tie.Need-loop-less Inv-loop μ-loop
 loop-less c = search needs
 
--- the place of the next sample
-turned : (c : tie.Joined1 Inv-loop μ-loop)
-    → c .if1 .at
-    ≡ interleavedPlace (c .before .before .before .before .before .args .channels) (moments (c .before .before .before .before .before .args .channels) (c .before .before .before .before .before .args .samples .now)) (c .before .before .before .before .loop .k + 1)
-turned c =
-    let l = c .before .before .before in
-    let s = l .before .before in
-    let n = moments (s .args .channels) (s .args .samples .now) in
-    let k = l .before .loop .k in
-    let here = l .before .loop .inv .1 in
-    let next = next-place (s .args .channels) n k (below l) (some-moment (s .args .channels) n k (below l)) in
-    ⊎-elim (λ w. omega (arith, here, s .pre .1, w, next .1 (omega (arith, here, s .pre .1, w)))) (λ w. omega (arith, here, s .pre .1, w, next .0 (omega (arith, here, s .pre .1, w)))) (c .if1 .came)
-
 loop-again : tie.Need-loop-again Inv-loop μ-loop
 loop-again c =
-    let l = c .before .before .before in
-    let s = l .before .before in (
-      goes-on _ _ _ _ nan _ (l .before .loop .inv .0) (whole (l .before)) (omega (arith, below l, length-interleaved (s .args .channels) (s .args .samples .now)))
-          (sample-at (s .args .channels) (s .args .samples .now) (l .before .loop .k) (l .before .loop .at) _ nan (below l) (l .before .loop .inv .1) (search needs)),
-      turned c,
+    let t = c .before .before in
+    let l = c .before .before .before .before .before in
+    let s = l .before .before in
+    let f = channelOf (s .args .channels) (s .args .moments) (s .args .samples .now) in
+    let from = l .loop .channel * s .args .moments in (
+      omega arith,
+      joined-next f (s .args .moments) (length-channel (s .args .channels) (s .args .moments) (s .args .samples .now)) (s .args .frame .now) (l .loop .frame) _ (l .loop .channel) (from + s .args .moments - from) (l .loop .inv .1)
+          (t .take-channel .ensures ∙ ap (λ (n : ℕ). channelOf (s .args .channels) n (s .args .samples .now) (l .loop .channel)) (lent (t .before) .0)) (omega arith),
     )
 
 same-length : tie.Need-same-length Inv-loop μ-loop
@@ -110,9 +95,10 @@ same-length c = frame-length (c .before)
 
 returns : tie.Need-returns Inv-loop μ-loop
 returns c =
-    let s = c .before .before in
-    let all : c .before .loop .k ≡ s .args .total = omega (arith, c .before .loop .inv .0 .within, s .pre .1, length-interleaved (s .args .channels) (s .args .samples .now)) in
-    c .before .loop .inv .0 .is ∙ ap (paste (s .args .frame .now) 0 (interleavedFrame (s .args .channels) (s .args .samples .now))) all
+    let s = c .before .before .before in
+    let all : c .before .loop .channel ≡ s .args .channels = omega (arith, c .before .loop .inv .0) in
+    c .before .loop .inv .1 ∙ ap (λ (k : ℕ). joined (channelOf (s .args .channels) (s .args .moments) (s .args .samples .now)) k ++ drop (k * s .args .moments) (s .args .frame .now)) all
+    ∙ ap (λ (k : ℕ). joined (channelOf (s .args .channels) (s .args .moments) (s .args .samples .now)) (s .args .channels) ++ drop k (s .args .frame .now)) (mul-comm (s .args .channels) (s .args .moments))
 
 pub separate-spec : {M : Type 1} → statement M
 separate-spec =
@@ -121,15 +107,14 @@ separate-spec =
     Inv-loop
     μ-loop
     loop-holds
-    mul-frame
-    shared-slice-copy-out-frame
-    int-to-float-frame
-    mul-frame-2
-    slice-write-frame
-    add-at
-    sub-at
-    sub-at-2
-    add-k
+    mul-from
+    add-to
+    mul-take-channel
+    sub-take-channel
+    part-take-channel-start
+    part-take-channel-end
+    take-channel-requires
+    add-channel
     loop-less
     loop-again
     same-length
