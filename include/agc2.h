@@ -27,6 +27,7 @@
 
 #include <stddef.h>
 #include <stdint.h>
+#include <string.h>
 
 #ifdef __cplusplus
 extern "C" {
@@ -313,8 +314,8 @@ AGC2_CALL uint32_t agc2_analyze_channels(agc2_controller *controller, int32_t ap
     float frame[AGC2_MAX_CHANNELS * AGC2_MAX_SAMPLES_PER_CHANNEL];
     const int fits = agc2_channels_fit(samples_per_channel, channel_count);
     for (size_t c = 0; fits && c < channel_count; c++) {
-        for (size_t i = 0; i < samples_per_channel; i++) {
-            frame[c * samples_per_channel + i] = channels[c][i];
+        if (samples_per_channel != 0) { /* a channel of no samples may be a null pointer */
+            memcpy(frame + c * samples_per_channel, channels[c], samples_per_channel * sizeof frame[0]);
         }
     }
     return agc2_analyze_converted(controller, applied_input_volume, samples_per_channel, frame, channel_count * samples_per_channel, fits);
