@@ -281,7 +281,7 @@ AGC2_CALL uint32_t agc2_spotter_analyze_input_audio_each(agc2_controller *contro
 }
 
 /* ---- samples as devices give them, put in a frame's order and on its scale. Each of these calls has the answer and leaves the bytes of agc2_analyze_input_audio with that frame. For a volume for each
- * microphone, and for the spotter, put the samples in a buffer of your own with the converters, which are proved, and call the entry that is meant. */
+ * microphone, and for the spotter, put the samples in a buffer of your own with the converters, which are proved, and call the entry that is meant. The buffer must not overlap the samples. */
 
 /* count interleaved samples, at each moment channel after channel: frame[c * n + i] = samples[i * channels + c], where n = count / channels. Writes n * channels floats, each exact; or none, where
  * room is less or channels is 0. */
