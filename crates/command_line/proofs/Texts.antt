@@ -9,18 +9,15 @@ use lib.Dec.{eqb}
 use lib.ListN.{length, getD, drop}
 use lib.Seq.{drop-cons, drop-length}
 use borrow.Author.Tests.{eq-eqb, ne-eqb}
+use Rattle.numbers.proofs.Truths.{and-false}
 use Rattle.command_line.specs.Argument.{sameText, beginsWithDash, dash}
-
-both-false : (a : Bool) → false ≡ (a && false)
-both-false true = refl
-both-false false = refl
 
 pub other-lengths : (a b : List ℕ) → (length a ≡ length b → ⊥) → false ≡ sameText a b
 unfolding sameText
 other-lengths [] [] h = absurd (h refl)
 other-lengths [] (y ∷ b) h = refl
 other-lengths (x ∷ a) [] h = refl
-other-lengths (x ∷ a) (y ∷ b) h = both-false (eqb x y) ∙ ap (λ (t : Bool). eqb x y && t) (other-lengths a b (λ e. h (ap suc e)))
+other-lengths (x ∷ a) (y ∷ b) h = sym (and-false (eqb x y)) ∙ ap (λ (t : Bool). eqb x y && t) (other-lengths a b (λ e. h (ap suc e)))
 
 -- the rests decide
 pub record Rests (a b : List ℕ) (i : ℕ) : Type 0 where

@@ -1,6 +1,5 @@
 // What an argument asks for.
 ghost use mathlib.Core.Path.{_≡_};
-ghost use lib.ListN.{length};
 ghost use Rattle.command_line.specs.Argument.{sameText, beginsWithDash, argumentOf};
 
 pub enum Argument {

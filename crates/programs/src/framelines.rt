@@ -1,5 +1,4 @@
 // The frame-line program: the files that are named, or standard input, to standard output; one controller with one channel and the default settings over all of them.
-ghost use mathlib.Core.Path.{_≡_};
 ghost use Prim.Native.Nat.{_*_, _≤_};
 ghost use lib.ListN.{length};
 ghost use Rattle.command_line.specs.Free.{Free};
