@@ -65,8 +65,8 @@ module _ (n : ℕ) where
       let all = each_one (StreamAnalogLevel s.number) channels o in
       record { state = all.state; equal = ap (λ (ns : List ℕ). each_given ns channels) same ∙ given_all s.number channels ∙ all.equal }
 
-  first_of_lem : (channels : List MonoInputVolumeController) → One n channels → (aggregate_of channels).channel ≡ 0
-  first_of_lem channels o = ap (λ (l : List MonoInputVolumeController). (aggregate_of l).channel) o.equal ∙ first_lowest n o.state
+  first_of : (channels : List MonoInputVolumeController) → One n channels → (aggregate_of channels).channel ≡ 0
+  first_of channels o = ap (λ (l : List MonoInputVolumeController). (aggregate_of l).channel) o.equal ∙ first_lowest n o.state
 
   as_one : (c : Control) → One n c.channels → c.controlling ≡ 0 → AsOne n c
   as_one c o f = record { state = o.state; equal = o.equal; first = f }
@@ -79,17 +79,17 @@ module _ (n : ℕ) where
   as_one_kept = record {
     runs = record {
       hears = record {
-        lowers = λ by c a. let o = each_one (Clipping by) c.channels (one c a) in as_one _ o (first_of_lem _ o);
+        lowers = λ by c a. let o = each_one (Clipping by) c.channels (one c a) in as_one _ o (first_of _ o);
         counts = λ c a. record { state = a.state; equal = a.equal; first = a.first };
       };
-      applies = λ numbers c e m t a. let o = given_one numbers c.channels e t (one c a) in as_one _ o (first_of_lem _ o);
+      applies = λ numbers c e m t a. let o = given_one numbers c.channels e t (one c a) in as_one _ o (first_of _ o);
       processes = λ probability level c a.
           let error = rms_error_of level c.settings.min_target c.settings.max_target in
           let o = each_one (Process error probability) c.channels (one c a) in
-          as_one _ o (first_of_lem _ o);
-      repeats = λ c a. as_one _ (one c a) (first_of_lem c.channels (one c a));
+          as_one _ o (first_of _ o);
+      repeats = λ c a. as_one _ (one c a) (first_of c.channels (one c a));
     };
-    initialises = λ c a. let o = each_one Initialize c.channels (one c a) in as_one _ o (first_of_lem _ o);
+    initialises = λ c a. let o = each_one Initialize c.channels (one c a) in as_one _ o (first_of _ o);
     switches = λ on c a. as_one _ (each_one (CaptureOutputUsed on) c.channels (one c a)) a.first;
   }
 

@@ -7,7 +7,7 @@ use Rattle.frame_lines.specs.Digits.{is_digit, digit, are_digits, number_after}
 use Rattle.frame_lines.specs.Samples.{signed16, are_samples, samples_in}
 use Rattle.frame_lines.specs.Line.{head_is_good, is_framed, is_well_formed, fields_of, meaning}
 use Rattle.frame_lines.specs.Lines.{lines_of}
-use Rattle.frame_lines.specs.Answer.{digit_character, digits_of, decimal, volume_text, number_text}
+use Rattle.frame_lines.specs.Answer.{digit_character, decimal, volume_text, number_text}
 use Rattle.clipping_predictor_level_buffer.specs.Metrics.{partial_metrics}
 use Rattle.clipping_predictor.specs.Settings as Predictors
 use Rattle.clipping_predictor.specs.Turned.{estimated}
@@ -31,5 +31,5 @@ use Rattle.claims.specs.ExampleLines.{bytes_of, ExampleLines}
 
 -- THE CLAIM
 pub example_lines : ExampleLines
-unfolding bytes_of lines_of is_digit digit are_digits number_after signed16 are_samples samples_in head_is_good is_framed is_well_formed fields_of meaning digit_character digits_of decimal volume_text number_text text_of text_of_lines start_controller output_of line_step volume_in making_with Predictors.settings_of Predictors.checked Predictors.levels_in_range at_least_of defaults settings_of analyze_input_audio recommend_input_volume within_of listed frame_fits count_of clipped_in total most_clipped clipped_ratio_of called is_users aggregate_of with_applied_input_volumes lowest_of each_given numbers_of lower_channels push_each partial_metrics estimate_tree estimated differ of_int of_bits div le
+unfolding bytes_of lines_of is_digit digit are_digits number_after signed16 are_samples samples_in head_is_good is_framed is_well_formed fields_of meaning digit_character decimal volume_text number_text text_of text_of_lines start_controller output_of line_step volume_in making_with Predictors.settings_of Predictors.checked Predictors.levels_in_range at_least_of defaults settings_of analyze_input_audio recommend_input_volume within_of listed frame_fits count_of clipped_in total most_clipped clipped_ratio_of called is_users aggregate_of with_applied_input_volumes lowest_of each_given numbers_of lower_channels push_each partial_metrics estimate_tree estimated differ of_int of_bits div le
 example_lines = refl

@@ -36,5 +36,4 @@ pub mod Classroom
 pub mod Needed
 pub mod ExampleLines
 pub mod Samples
-pub mod OneSpelling
 pub mod Claims

@@ -5,7 +5,7 @@ use Prim.Native.Nat.{ℕ}
 use Rattle.input_volume_controller.specs.Controller.{Controller}
 use Rattle.frame_lines.specs.Stream.{cut, ended, begun}
 use Rattle.frame_lines.proofs.Meanings.{cut_alike}
-use Rattle.frame_lines.proofs.Pieces.{ended_two, ended_begun, ended_cut, kept_two}
+use Rattle.frame_lines.proofs.Pieces.{ended_two, begun_two, ended_begun, ended_cut, begins_cut}
 use Rattle.frame_answers.specs.LineStep.{LineStep, meant_step, line_step}
 use Rattle.frame_answers.specs.Texts.{text_of, after_lines, text_of_lines}
 use Rattle.frame_answers.specs.Stream.{State, text_of_piece, after_piece}
@@ -76,9 +76,15 @@ module _ (s : State) (x y : List ℕ) where
       ∙ after_append s.controller (ended (s.kept ++ x)) (ended (begun (s.kept ++ x) ++ y))
       ∙ after_alike c _ _ lines_alike
 
-  pub after_two : after_piece s (x ++ y) ≡ after_piece (after_piece s x) y
+  kept_two : (after_piece s (x ++ y)).kept ≡ (after_piece (after_piece s x) y).kept
   unfolding after_piece
-  after_two = λ i. record { controller = controller_two i; kept = kept_two s.kept x y i }
+  kept_two =
+      ap (λ (l : List ℕ). cut (begun l)) (sym (append_assoc s.kept x y))
+      ∙ ap cut (begun_two (s.kept ++ x) y)
+      ∙ sym (begins_cut (begun (s.kept ++ x)) y (ended_begun (s.kept ++ x)))
+
+  pub after_two : after_piece s (x ++ y) ≡ after_piece (after_piece s x) y
+  after_two = λ i. record { controller = controller_two i; kept = kept_two i }
 
 -- ---- nothing is fed: no line ends in what is kept, and all of it is kept
 

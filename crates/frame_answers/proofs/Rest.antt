@@ -5,10 +5,10 @@ use Prim.Native.Nat.{ℕ, ◌+◌, ◌-◌, ◌/◌, ◌≤◌}
 use native.Mathlib.Omega.{arith}
 use lib.ListN.{length, take, drop, length-append, length-drop, take-append-drop}
 use lib.Seq.{length-take-le, take-append_seam, drop-append_seam, drop-append-le, drop-drop}
-use Rattle.frame_lines.specs.Answer.{longest, laid}
+use Rattle.frame_lines.specs.Answer.{longest}
 use Rattle.frame_answers.specs.declared.stream.Stream.{Stream}
 use Rattle.frame_answers.specs.declared.stream.Fed.{Fed}
-use Rattle.frame_answers.specs.Stream.{State, view_of, Becomes, text_of_piece, after_piece, up_to, used_of, FedAs}
+use Rattle.frame_answers.specs.Stream.{State, view_of, Becomes, text_of_piece, after_piece, up_to, used_of, laid, FedAs}
 use Rattle.frame_answers.proofs.InTwo.{text_two, after_two}
 use Rattle.frame_answers.proofs.Turns.{to_end, SoFar}
 

@@ -10,23 +10,21 @@ use lib.ListN.{length, take, drop, length-append, length-drop, take-append-drop}
 use lib.Seq.{take_all, take-length, length-take-le, take-append_seam, drop-append-add, drop-drop, take-add, paste}
 use Rattle.frame_lines.specs.declared.answer.Text.{Text}
 use Rattle.frame_lines.specs.declared.answer.Reply.{Reply}
-use Rattle.frame_lines.specs.declared.search.Place.TheVariants.{At, Nowhere}
-use Rattle.frame_lines.specs.Answer.{longest, number_text, decimal, answer_of, laid}
+use Rattle.frame_lines.specs.declared.lines.Feed.TheVariants.{At, Nowhere}
+use Rattle.frame_lines.specs.Answer.{longest, number_text, decimal, answer_of, held}
 use Rattle.frame_lines.specs.Lines.{is_feed}
 use Rattle.frame_lines.specs.Stream.{kept_characters, cut, ended_if, ended, begun_if, begun}
-use Rattle.frame_lines.specs.Search.{here_if, first_of, place_of}
-use Rattle.frame_lines.specs.Feeds.{feed_from, kept}
+use Rattle.frame_lines.specs.Feeds.{feed_if, first_feed, feed_from, kept}
 use Rattle.frame_lines.specs.declared.answer.Reply.TheVariants.{Volume, Refused}
-use Rattle.frame_lines.proofs.Answers.{Fitting, number_fits, answer_fits, put_behind}
-use Rattle.frame_lines.proofs.Searching.{found_if, lost_if}
-use Rattle.frame_lines.proofs.Feeding.{FirstLine, first_line, line_found, no_line_ends}
+use Rattle.frame_lines.proofs.Answers.{Fitting, number_fits, answer_fits, held_text}
+use Rattle.frame_lines.proofs.Feeding.{found_if, lost_if, line_found, no_line_ends}
 use Rattle.frame_lines.proofs.Pieces.{joined, begun_after, ended_after, begun_after_lem, begun_all}
 use Rattle.frame_answers.specs.declared.stream.Stream.{Stream}
 use Rattle.frame_answers.specs.declared.stream.Ended.{Ended}
 use Rattle.frame_answers.specs.LineStep.{Answer, recommended, refused}
 use Rattle.frame_answers.specs.Texts.{text_of, after_lines, text_of_lines}
 use Rattle.frame_answers.specs.Answered.{reply_says}
-use Rattle.frame_answers.specs.Stream.{State, view_of, Good, Becomes, text_of_piece, after_piece, room_behind, up_to, used_of, line_ended, EndedAs, FedAs}
+use Rattle.frame_answers.specs.Stream.{State, view_of, Good, Becomes, text_of_piece, after_piece, room_behind, up_to, used_of, laid, line_ended, EndedAs, FedAs}
 use Rattle.frame_answers.proofs.InTwo.{text_two, after_two, text_none}
 
 -- ---- an answer has at most five bytes
@@ -55,39 +53,52 @@ module _ (s : Stream) (good : Good s) where
       let b : cut (begun (k ++ [])) ≡ k = ap (λ (l : List ℕ). cut (begun l)) (append-nil k) ∙ ap cut (begun_all k good.unended) ∙ all_kept in
       λ i. record { controller = after_lines (view_of s).controller (e i); kept = b i }
 
--- ---- how much is used of a text with a line feed: its first line, and the rest with room for one answer less
+-- ---- the first line of a text, with its line feed
 
-used_if : (b : ℕ) (text : List ℕ) (n m : ℕ) (t : Bool) (o : Option ℕ) → is_feed b ≡ t → first_of 10 text ≡ o
-    → ((k l : ℕ) → first_of 10 text ≡ some k → up_to text (suc l) ≡ take (suc k) text ++ up_to (drop (suc k) text) l)
-    → here_if t o ≡ some n → up_to (b ∷ text) (suc m) ≡ take (suc n) (b ∷ text) ++ up_to (drop (suc n) (b ∷ text)) m
-unfolding up_to
-used_if b text n m true o p q f e =
-    let k : 0 ≡ n = cc in
-    ap (λ (t : Bool). b ∷ up_to text (room_behind t m)) p ∙ ap (λ (i : ℕ). take (suc i) (b ∷ text) ++ up_to (drop (suc i) (b ∷ text)) m) k
-used_if b text n m false none p q f e = let z : ◌≡◌ {A = ℕ} 0 1 = cc in absurd (omega arith)
-used_if b text n m false (some i) p q f e =
-    let k : suc i ≡ n = cc in
-    ap (λ (t : Bool). b ∷ up_to text (room_behind t m)) p
-    ∙ ap (λ (l : List ℕ). b ∷ l) (f i m q)
-    ∙ ap (λ (j : ℕ). take (suc j) (b ∷ text) ++ up_to (drop (suc j) (b ∷ text)) m) k
+record FirstLine (text : List ℕ) (n : ℕ) : Type 0 where
+  line : ended (take (suc n) text) ≡ take n text ∷ []
+  begins : begun (take (suc n) text) ≡ []
+  room : (m : ℕ) → up_to text (suc m) ≡ take (suc n) text ++ up_to (drop (suc n) text) m
 
-used_first : (text : List ℕ) (n m : ℕ) → first_of 10 text ≡ some n → up_to text (suc m) ≡ take (suc n) text ++ up_to (drop (suc n) text) m
-unfolding first_of
-used_first [] n m e = let z : ◌≡◌ {A = ℕ} 0 1 = cc in absurd (omega arith)
-used_first (b ∷ text) n m e = used_if b text n m (is_feed b) (first_of 10 text) refl refl (used_first text) e
+this_line : (b : ℕ) (text : List ℕ) → is_feed b ≡ true → FirstLine (b ∷ text) 0
+unfolding ended begun up_to
+this_line b text e = record {
+  line = λ i. ended_if (e i) b [];
+  begins = λ i. begun_if (e i) b [] [];
+  room = λ m. ap (λ (t : Bool). b ∷ up_to text (room_behind t m)) e;
+}
+
+later_line : (b : ℕ) (text : List ℕ) (n : ℕ) → is_feed b ≡ false → FirstLine text n → FirstLine (b ∷ text) (suc n)
+unfolding ended begun up_to
+later_line b text n e f = record {
+  line = λ i. ended_if (e i) b (f.line i);
+  begins = λ i. begun_if (e i) b (f.line i) (f.begins i);
+  room = λ m. ap (λ (t : Bool). b ∷ up_to text (room_behind t m)) e ∙ ap (λ (l : List ℕ). b ∷ l) (f.room m);
+}
+
+first_if_lem : (b : ℕ) (text : List ℕ) (n : ℕ) (t : Bool) (o : Option ℕ) → is_feed b ≡ t → first_feed text ≡ o → ((m : ℕ) → first_feed text ≡ some m → FirstLine text m)
+    → feed_if t o ≡ some n → FirstLine (b ∷ text) n
+first_if_lem b text n true o p q f e = let k : 0 ≡ n = cc in subst (FirstLine (b ∷ text)) k (this_line b text p)
+first_if_lem b text n false none p q f e = let z : ◌≡◌ {A = ℕ} 0 1 = cc in absurd (omega arith)
+first_if_lem b text n false (some m) p q f e = let k : suc m ≡ n = cc in subst (FirstLine (b ∷ text)) k (later_line b text m p (f m q))
+
+first_line : (text : List ℕ) (n : ℕ) → first_feed text ≡ some n → FirstLine text n
+unfolding first_feed
+first_line [] n e = let z : ◌≡◌ {A = ℕ} 0 1 = cc in absurd (omega arith)
+first_line (b ∷ text) n e = first_if_lem b text n (is_feed b) (first_feed text) refl refl (first_line text) e
 
 -- a text without a line feed is used whole
-whole_if : (b : ℕ) (text : List ℕ) (m : ℕ) (t : Bool) (o : Option ℕ) → is_feed b ≡ t → first_of 10 text ≡ o → ((n : ℕ) → first_of 10 text ≡ none → up_to text (suc n) ≡ text)
-    → here_if t o ≡ none → up_to (b ∷ text) (suc m) ≡ b ∷ text
+whole_if : (b : ℕ) (text : List ℕ) (m : ℕ) (t : Bool) (o : Option ℕ) → is_feed b ≡ t → first_feed text ≡ o → ((n : ℕ) → first_feed text ≡ none → up_to text (suc n) ≡ text)
+    → feed_if t o ≡ none → up_to (b ∷ text) (suc m) ≡ b ∷ text
 unfolding up_to
 whole_if b text m true o p q f e = let z : ◌≡◌ {A = ℕ} 0 1 = cc in absurd (omega arith)
 whole_if b text m false none p q f e = ap (λ (t : Bool). b ∷ up_to text (room_behind t m)) p ∙ ap (λ (l : List ℕ). b ∷ l) (f m q)
 whole_if b text m false (some n) p q f e = let z : ◌≡◌ {A = ℕ} 0 1 = cc in absurd (omega arith)
 
-used_whole : (text : List ℕ) (m : ℕ) → first_of 10 text ≡ none → up_to text (suc m) ≡ text
-unfolding first_of up_to
+used_whole : (text : List ℕ) (m : ℕ) → first_feed text ≡ none → up_to text (suc m) ≡ text
+unfolding first_feed up_to
 used_whole [] m e = refl
-used_whole (b ∷ text) m e = whole_if b text m (is_feed b) (first_of 10 text) refl refl (used_whole text) e
+used_whole (b ∷ text) m e = whole_if b text m (is_feed b) (first_feed text) refl refl (used_whole text) e
 
 used_none : (text : List ℕ) → up_to text 0 ≡ []
 unfolding up_to
@@ -102,10 +113,10 @@ to_end at text = take_all (length text - at) (drop at text) (omega (arith, lengt
 
 module _ (s : State) (u : ended s.kept ≡ []) (text : List ℕ) (n : ℕ) (f : FirstLine text n) where
   line_ends : ended (s.kept ++ take (suc n) text) ≡ (s.kept ++ take n text) ∷ []
-  line_ends = ended_after s.kept (take (suc n) text) u ∙ ap (joined s.kept) f.alone
+  line_ends = ended_after s.kept (take (suc n) text) u ∙ ap (joined s.kept) f.line
 
   none_begins : begun (s.kept ++ take (suc n) text) ≡ []
-  none_begins = begun_after_lem s.kept (take (suc n) text) u ∙ (λ i. begun_after s.kept (f.alone i) (f.clears i))
+  none_begins = begun_after_lem s.kept (take (suc n) text) u ∙ (λ i. begun_after s.kept (f.line i) (f.begins i))
 
   line_text : text_of_piece s (take (suc n) text) ≡ text_of (line_ended s (take n text)).answer
   unfolding text_of_piece text_of_lines
@@ -114,6 +125,20 @@ module _ (s : State) (u : ended s.kept ≡ []) (text : List ℕ) (n : ℕ) (f : 
   line_after : after_piece s (take (suc n) text) ≡ record { controller = (line_ended s (take n text)).state; kept = [] }
   unfolding after_piece after_lines
   line_after = λ i. record { controller = after_lines s.controller (line_ends i); kept = cut (none_begins i) }
+
+-- ---- the text that was put
+
+-- a text that is held
+pub put_held : (out : List ℕ) (at : ℕ) (x : List ℕ) (t : Text) → t ≡ held x → paste out at t.bytes t.length ≡ paste out at x (length x)
+put_held out at x t e =
+    ap (λ (u : Text). paste out at u.bytes u.length) e
+    ∙ (λ i. (take at out ++ (held_text x ∙ sym (take-length x)) i) ++ drop (at + length x) out)
+
+put_behind : (t x out₀ out : List ℕ) → out ≡ laid t out₀ → paste out (length t) x (length x) ≡ laid (t ++ x) out₀
+put_behind t x out₀ out e =
+    ap (λ (o : List ℕ). paste o (length t) x (length x)) e
+    ∙ (λ i. (take-append_seam t (drop (length t) out₀) i ++ take-length x i) ++ (drop-append-add t (drop (length t) out₀) (length x) ∙ drop-drop (length x) (length t) out₀) i)
+    ∙ ap (λ (m : ℕ). (t ++ x) ++ drop m out₀) (sym (length-append t x))
 
 -- ---- what holds at each turn
 
@@ -151,12 +176,9 @@ module _ (piece out₀ : List ℕ) where
       abbrev n : ℕ
       n = e - at
 
-      first_at : first_of 10 (drop at piece) ≡ some n
-      unfolding place_of
-      first_at = found_if at e (first_of 10 (drop at piece)) found
-
       first : FirstLine (drop at piece) n
-      first = first_line (drop at piece) n first_at
+      unfolding feed_from
+      first = first_line (drop at piece) (e - at) (found_if at e (first_feed (drop at piece)) found)
 
       pub found_at : (at ≤ e) × (e < length piece)
       found_at = let f = line_found (kept s.begun) piece at h.becomes.good.unended e found in (f.least, f.within)
@@ -193,7 +215,7 @@ module _ (piece out₀ : List ℕ) where
           let k : room ≡ suc (room - 1) = omega arith in
           h.used
           ∙ ap (λ (m : ℕ). take at piece ++ up_to (drop at piece) m) k
-          ∙ ap (λ (l : List ℕ). take at piece ++ l) (used_first (drop at piece) n (room - 1) first_at)
+          ∙ ap (λ (l : List ℕ). take at piece ++ l) (first.room (room - 1))
           ∙ sym (append_assoc (take at piece) (take (suc n) (drop at piece)) (up_to (drop (suc n) (drop at piece)) (room - 1)))
           ∙ (λ i. sym next i ++ up_to (rest i) (room - 1))
 
@@ -258,12 +280,12 @@ module _ (piece out₀ : List ℕ) where
           ∙ ap (after_piece self) (sym all)
 
       used_all : used_of out₀ piece ≡ take (length piece) piece
-      unfolding place_of
+      unfolding feed_from
       used_all =
           let k : room ≡ suc (room - 1) = omega arith in
           h.used
           ∙ ap (λ (m : ℕ). take at piece ++ up_to (drop at piece) m) k
-          ∙ ap (λ (l : List ℕ). take at piece ++ l) (used_whole (drop at piece) (room - 1) (lost_if at (first_of 10 (drop at piece)) lost))
+          ∙ ap (λ (l : List ℕ). take at piece ++ l) (used_whole (drop at piece) (room - 1) (lost_if at (first_feed (drop at piece)) lost))
           ∙ sym all
 
       pub ends_piece : (r : Stream) → Becomes (after_piece (view_of s) (drop at piece)) r → FedAs self piece out₀ out (record { stream = r; used = length piece; written = written })

@@ -1,6 +1,7 @@
 // The answers to a stream of lines that comes in pieces of any size. Memory is constant: a controller, and the beginning of a line that a piece's end has cut.
-ghost use Rattle.std.specs.Prelude.{◌≡◌, [], ◌++◌};
-ghost use Rattle.frame_lines.specs.Answer.{held};
+ghost use Rattle.std.specs.Prelude.{◌≡◌, ◌+◌, ◌≤◌, length, [], ◌++◌};
+ghost use Rattle.std.proofs.Math.Seq.{paste};
+ghost use Rattle.frame_lines.specs.Answer.{longest, answer_of, held};
 ghost use Rattle.frame_lines.specs.Stream.{ended};
 ghost use Rattle.frame_lines.specs.Feeds.{kept};
 ghost use Rattle.frame_answers.specs.Ready.{sized_of, ready_of};
@@ -8,10 +9,9 @@ ghost use Rattle.frame_answers.specs.Stream.{view_of, Good, Becomes, fresh_state
 
 use crate::answers::{answer_frame, answer_line};
 use clipping_predictor_level_buffer::level::MAX_SAMPLES_PER_CHANNEL;
-use frame_lines::answer::{LONGEST, Reply, Text, answer, put_reply};
+use frame_lines::answer::{LONGEST, Reply, Text, answer};
 use frame_lines::line::{MOST_SAMPLES, Parsed, parse};
-use frame_lines::lines::{Begun, next_feed};
-use frame_lines::search::Place;
+use frame_lines::lines::{Begun, Feed, next_feed};
 use input_volume_controller::InputVolumeController;
 use mono_input_volume_controller::config::default_config;
 use mono_input_volume_controller::speech_level::SpeechLevel;
@@ -66,6 +66,27 @@ fn made_ready(parsed: Parsed) -> Ready
         Parsed::Malformed => Ready::Refused(Refusal::FrameLine),
         Parsed::Frame(volume, probability, level, n) => sized(volume, probability, level, n),
     }
+}
+
+// A text from a place on.
+fn put(out: &mut [u8], at: usize, text: Text)
+    requires { (length text.bytes ≡ longest) × (text.length ≤ longest) × (at + text.length ≤ length out.old) }
+    ensures { out.new ≡ paste out.old at text.bytes text.length }
+{
+    let count = text.length;
+    for i in 0..count {
+        out[at + i] = text.bytes[i];
+    }
+}
+
+// An answer from a place on, and the place behind it.
+fn put_reply(out: &mut [u8], at: usize, reply: Reply) -> usize
+    requires { at + longest ≤ length out.old }
+    ensures { (result ≡ at + length (answer_of reply)) × (out.new ≡ paste out.old at (answer_of reply) (length (answer_of reply))) }
+{
+    let text = answer(reply);
+    put(out, at, text);
+    at + text.length
 }
 
 impl Stream {
@@ -129,7 +150,7 @@ impl Stream {
         let mut room = out.len() / LONGEST;
         while 0 < room {
             let next = next_feed(piece, at);
-            let Place::At(end) = next else {
+            let Feed::At(end) = next else {
                 let stream = Stream { controller, begun };
                 return Fed {
                     stream: stream.keeping(&piece[at..]),
@@ -177,7 +198,7 @@ impl Stream {
             };
         }
         let next = next_feed(piece, 0);
-        let Place::At(end) = next else {
+        let Feed::At(end) = next else {
             return Fed {
                 stream: self.keeping(piece),
                 used: piece.len(),

@@ -5,11 +5,6 @@ pub mod Line
 pub mod Parsed
 pub mod Reading
 pub mod Answer
-pub mod Forgiven
-pub mod Spelling
-pub mod Walk
 pub mod Lines
 pub mod Stream
-pub mod Search
 pub mod Feeds
-pub mod Respelled

@@ -3,6 +3,3 @@ pub mod answer;
 mod digits;
 pub mod line;
 pub mod lines;
-pub mod respelling;
-pub mod search;
-pub mod spelling;

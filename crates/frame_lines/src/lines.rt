@@ -1,13 +1,18 @@
 // The lines of a stream that comes in pieces. Nothing here knows what a line is for. A line that lies within a piece is a part of it, from one
 // line feed to the next; only a line that the piece's end cuts is kept, up to a length that tells that it is too long.
-ghost use Rattle.std.specs.Prelude.{◌≡◌, ◌-◌, ◌≤◌, min, [], ◌++◌};
+ghost use Rattle.std.specs.Prelude.{◌≡◌, ◌+◌, ◌-◌, ◌≤◌, min, false, length, [], ◌++◌};
 ghost use Rattle.frame_lines.specs.Stream.{kept_characters, cut};
 ghost use Rattle.frame_lines.specs.Feeds.{feed_from, Good, kept, Keeps};
 
-use crate::search::{Place, next_of};
-
 // So many characters of a line are kept: one more than the longest line has.
 pub const KEPT_CHARACTERS: usize = 2001;
+
+// Where a line feed stands.
+#[derive(Drop)]
+pub enum Feed {
+    At(usize),
+    Nowhere,
+}
 
 // The beginning of a line, whose end is to come: the first `length` of these bytes.
 #[derive(Drop)]
@@ -16,11 +21,52 @@ pub struct Begun {
     pub length: usize,
 }
 
+// So many bytes are passed over at once.
+const PASSED: usize = 64;
+
+// Whether one of the next bytes from a place on is a line feed: no branch stands between the tests, so that the machine makes many at once.
+fn feed_in_next(bytes: &[u8], start: usize) -> bool
+    requires { start + 64 ≤ length bytes.now }
+    ensures { result ≡ false → feed_from bytes.now (start + 64) ≡ feed_from bytes.now start }
+{
+    let mut found = false;
+    let mut i = 0;
+    while i < PASSED {
+        found = found | (bytes[start + i] == b'\n');
+        i += 1;
+    }
+    found
+}
+
+// A place from which the search comes to the same: it passes over many bytes without a line feed.
+fn passed(bytes: &[u8], start: usize) -> usize
+    ensures { feed_from bytes.now result ≡ feed_from bytes.now start }
+{
+    let mut i = start;
+    while i < bytes.len() {
+        if bytes.len() - i < PASSED {
+            return i;
+        }
+        if feed_in_next(bytes, i) {
+            return i;
+        }
+        i += PASSED;
+    }
+    i
+}
+
 // The place of the first line feed from `start` on.
-pub fn next_feed(bytes: &[u8], start: usize) -> Place
+pub fn next_feed(bytes: &[u8], start: usize) -> Feed
     ensures { result ≡ feed_from bytes.now start }
 {
-    next_of(bytes, start, b'\n')
+    let mut i = passed(bytes, start);
+    while i < bytes.len() {
+        if bytes[i] == b'\n' {
+            return Feed::At(i);
+        }
+        i += 1;
+    }
+    Feed::Nowhere
 }
 
 // How many of `more` characters are still kept behind `length` others.

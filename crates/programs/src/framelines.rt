@@ -3,10 +3,9 @@ ghost use Rattle.std.specs.Prelude.{◌*◌, ◌≤◌, length};
 ghost use Rattle.command_line.specs.Free.{Free};
 ghost use Rattle.frame_answers.specs.Stream.{view_of, Good, Becomes, after_piece};
 
-use crate::going::{Going, going_on, next_piece};
 use command_line::ending::{Ending, status};
-use command_line::input::Input;
-use command_line::output::write;
+use command_line::input::{Input, Reading};
+use command_line::output::{close, write};
 use command_line::start::{Start, options};
 use frame_answers::stream::Stream;
 
@@ -21,6 +20,21 @@ const ANSWERS: usize = 327680;
 struct Turn {
     stream: Stream,
     going: Going,
+}
+
+#[derive(Drop)]
+enum Going {
+    On,
+    Over(Ending),
+}
+
+// After a write.
+fn going_on(ending: Ending) -> Going {
+    match ending {
+        Ending::Done => Going::On,
+        Ending::Failed => Going::Over(Ending::Failed),
+        Ending::Misused => Going::Over(Ending::Misused),
+    }
 }
 
 // Answers all lines that end in a piece. A write that fails ends the program.
@@ -38,6 +52,44 @@ fn answered(stream: Stream, piece: &[u8], out: &mut [u8]) -> Turn
     }
 }
 
+// The end of a file ends its last line, whether or not that has its line feed.
+fn file_ended(stream: Stream, out: &mut [u8]) -> Turn
+    requires { Good stream × (5 ≤ length out.old) }
+    ensures { Good result.stream }
+{
+    let begun = stream.begun;
+    if begun.length == 0 {
+        return Turn {
+            stream,
+            going: Going::On,
+        };
+    }
+    answered(stream, b"\n", out)
+}
+
+// One reading. A read that fails leaves a line that has not ended unanswered.
+fn after_reading(stream: Stream, reading: Reading, read: &[u8], out: &mut [u8]) -> Turn
+    requires { Good stream × (length read.now * 5 ≤ length out.old) × (5 ≤ length out.old) }
+    ensures { Good result.stream }
+{
+    match reading {
+        Reading::Bytes => answered(stream, read, out),
+        Reading::FileEnd => file_ended(stream, out),
+        Reading::Argument => Turn {
+            stream,
+            going: Going::On,
+        },
+        Reading::End => Turn {
+            stream,
+            going: Going::Over(close(b"framelines")),
+        },
+        Reading::Failed => Turn {
+            stream,
+            going: Going::Over(Ending::Failed),
+        },
+    }
+}
+
 // A loop must be shown to end: no input has so many pieces.
 fn answer_all() -> Ending {
     let mut piece = [0u8; PIECE];
@@ -46,15 +98,11 @@ fn answer_all() -> Ending {
     let mut input = Input::new();
     let mut turns = u64::MAX;
     while turns > 0 {
-        let begun = stream.begun;
-        let next = next_piece(input, b"framelines", begun.length > 0, &mut piece);
-        input = next.input;
-        let n = next.count;
-        let reading = next.going;
-        if let Going::Over(ending) = reading {
-            return ending;
-        }
-        let t = answered(stream, &piece[..n], &mut out);
+        let got = input.read(b"framelines", &mut piece);
+        input = got.input;
+        let reading = got.reading;
+        let n = got.count;
+        let t = after_reading(stream, reading, &piece[..n], &mut out);
         stream = t.stream;
         let going = t.going;
         if let Going::Over(ending) = going {

@@ -1,4 +1,2 @@
 // The programs, each as a function that answers its exit status. A program of the language itself cannot hand a status to the system: what C's `main` answers becomes one.
 pub mod framelines;
-mod going;
-pub mod respell;

@@ -6,7 +6,7 @@ use native.Mathlib.Omega.{arith}
 use lib.Ieee.{Float, nan, of_bits, of_int}
 use lib.ListN.{length, length-map}
 use Rattle.agc2.specs.Samples.{scaled, unit_frame}
-use Rattle.agc2.proofs.Interleaved.{Written, starts, goes_on, same_length as kept_length, written_all, not_laid, get_d_map}
+use Rattle.agc2.proofs.Interleaved.{Written, starts, goes_on, same_length as kept-length, written_all, not_laid, get_d_map}
 use borrow.Author.Rules.{rules}
 use Rattle.agc2.proofs.samples.agc2_frame_of_unit.Statement.{statement}
 use Rattle.agc2.proofs.samples.agc2_frame_of_unit.Tie as tie
@@ -32,7 +32,7 @@ whole c =
     omega (arith, count s.args.samples.now)
 
 frame-length : (c : tie.At-loop invariant-loop decreases-loop) → length c.loop.frame ≡ length c.before.before.args.frame.now
-frame-length c = kept_length _ _ _ _ c.loop.invariant (whole c)
+frame-length c = kept-length _ _ _ _ c.loop.invariant (whole c)
 
 loop-holds : tie.Need-loop-init invariant-loop decreases-loop
 loop-holds c = starts _ _

@@ -5,7 +5,7 @@ use native.Mathlib.Omega.{arith}
 use lib.Ieee.{nan}
 use lib.ListN.{length}
 use Rattle.agc2.specs.Samples.{channel_of}
-use Rattle.agc2.proofs.Interleaved.{Written, starts, goes_on, same_length as kept_length, length_channel, sample_at, place_within, whole_part}
+use Rattle.agc2.proofs.Interleaved.{Written, starts, goes_on, same_length as kept-length, length_channel, sample_at, place_within, whole_part}
 use borrow.Author.Rules.{rules}
 use Rattle.agc2.proofs.samples.take_channel.Statement.{statement}
 use Rattle.agc2.proofs.samples.take_channel.Tie as tie
@@ -26,7 +26,7 @@ count : (c : tie.Start invariant-loop decreases-loop) → length (channel_of c.a
 count c = length_channel c.args.channels (length c.args.part.now) c.args.samples.now c.args.channel
 
 part_length : (c : tie.At-loop invariant-loop decreases-loop) → length c.loop.part ≡ length c.before.args.part.now
-part_length c = kept_length _ _ _ _ c.loop.invariant (omega (arith, count c.before))
+part_length c = kept-length _ _ _ _ c.loop.invariant (omega (arith, count c.before))
 
 loop-holds : tie.Need-loop-init invariant-loop decreases-loop
 loop-holds c = starts _ _

@@ -1,9 +1,6 @@
 -- `frame_lines::answer::volume_text` meets its contract. Assumes nothing.
-use mathlib.Core.Path.{◌≡◌, ap, ◌∙◌}
 use mathlib.Core.List.{[], ◌∷◌}
-use Prim.Native.Nat.{◌/◌, ◌%◌}
-use native.Mathlib.Omega.{arith}
-use Rattle.frame_lines.specs.Answer.{digit_character, digits_of, volume_text}
+use Rattle.frame_lines.specs.Answer.{volume_text}
 use borrow.Author.Rules.{rules}
 use Rattle.frame_lines.proofs.answer.volume_text.Statement.{statement}
 use Rattle.frame_lines.proofs.answer.volume_text.Tie as tie
@@ -18,13 +15,11 @@ mark-of-requires : tie.Need-mark-of-requires
 mark-of-requires c κs = search rules
 
 returns : tie.Need-returns
-unfolding volume_text digits_of
+unfolding volume_text
 returns c =
     let high = c.before.before.digit-character in
     let low = c.before.digit-character2 in
-    let volume = c.before.before.before.args.volume in
-    let one : volume / 16 ≡ volume / 16 % 16 = omega arith in
-    λ i. record { bytes = (high.ensures ∙ ap digit_character one) i ∷ low.ensures i ∷ 32 ∷ c.mark_of.ensures i ∷ 10 ∷ []; length = 5 }
+    λ i. record { bytes = high.ensures i ∷ low.ensures i ∷ 32 ∷ c.mark_of.ensures i ∷ 10 ∷ []; length = 5 }
 
 pub volume-text-spec : {M : Type 1} → statement M
 volume-text-spec =

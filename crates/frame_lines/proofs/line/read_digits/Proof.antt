@@ -9,7 +9,7 @@ use Rattle.frame_lines.specs.Line.{part}
 use Rattle.frame_lines.specs.Parsed.{sample_of}
 use Rattle.frame_lines.proofs.Parts.{part_four, digits_part}
 use Rattle.frame_lines.proofs.Counted.{four_below}
-use Rattle.frame_lines.proofs.SampleTexts.{Reached, same_length as kept_length, starts, goes_on, ends}
+use Rattle.frame_lines.proofs.SampleTexts.{Reached, same_length as kept-length, starts, goes_on, ends}
 use borrow.Author.Rules.{rules}
 use Rattle.frame_lines.proofs.line.read_digits.Statement.{statement}
 use Rattle.frame_lines.proofs.line.read_digits.Tie as tie
@@ -39,7 +39,7 @@ mul-samples : tie.Need-overflow-mul-samples invariant-loop decreases-loop
 mul-samples c = search rules
 
 slice-write-samples : tie.Need-slice-write-samples invariant-loop decreases-loop
-slice-write-samples c = omega (arith, kept_length _ _ _ _ c.before.before.before.loop.invariant, c.before.before.before.before.before.before.requires.1)
+slice-write-samples c = omega (arith, kept-length _ _ _ _ c.before.before.before.loop.invariant, c.before.before.before.before.before.before.requires.1)
 
 add-n : tie.Need-overflow-add-n invariant-loop decreases-loop
 add-n c = search rules
@@ -53,7 +53,7 @@ loop-again c =
     goes_on _ _ _ _ l.invariant (omega arith) c.sample.result (digits c.before.before) (c.sample.ensures ∙ ap (λ (k : ℕ). sample_of (signed16 k)) c.before.number-of-four.ensures)
 
 same_length : tie.Need-same-length invariant-loop decreases-loop
-same_length c = kept_length _ _ _ _ c.before.loop.invariant
+same_length c = kept-length _ _ _ _ c.before.loop.invariant
 
 returns : tie.Need-returns invariant-loop decreases-loop
 returns c = ends _ _ _ _ c.before.loop.invariant (omega arith)

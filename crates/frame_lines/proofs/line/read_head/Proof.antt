@@ -89,16 +89,16 @@ from-bits-requires-2 : tie.Need-from-bits-requires-2
 from-bits-requires-2 c κs = search rules
 
 returns-6 : tie.Need-returns-6
-returns-6 c = level_malformed _ (sym c.before.before.level_field.ensures ∙ c.enum-told2.given.1)
+returns-6 c = level_malformed _ (sym c.before.before.level-field.ensures ∙ c.enum-told2.given.1)
 
 returns-7 : tie.Need-returns-7
-returns-7 c = kept c.before.before (told_dash _ (sym c.before.before.level_field.ensures ∙ c.enum-told3.given.1))
+returns-7 c = kept c.before.before (told_dash _ (sym c.before.before.level-field.ensures ∙ c.enum-told3.given.1))
 
 returns-8 : tie.Need-returns-8
 returns-8 c =
     let f = c.before.before.before.before in
     (λ i. Fields f.before.before.before.before.before.before.before.before.before.before.number-of-two.result f.before.from-bits.result (Dbfs (c.from-bits2.ensures i)) 21)
-    ∙ kept f (told_bits _ _ (sym f.level_field.ensures ∙ c.before.before.level.given.1))
+    ∙ kept f (told_bits _ _ (sym f.level-field.ensures ∙ c.before.before.level.given.1))
 
 pub read-head-spec : {M : Type 1} → statement M
 read-head-spec =

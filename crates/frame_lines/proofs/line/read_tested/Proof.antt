@@ -10,7 +10,7 @@ use Rattle.frame_lines.specs.Line.{part}
 use Rattle.frame_lines.specs.Parsed.{sample_of}
 use Rattle.frame_lines.proofs.Parts.{part_four, lent_part}
 use Rattle.frame_lines.proofs.Counted.{four_below}
-use Rattle.frame_lines.proofs.SampleTexts.{Reached, same_length as kept_length, starts, goes_on, stops, ends}
+use Rattle.frame_lines.proofs.SampleTexts.{Reached, same_length as kept-length, starts, goes_on, stops, ends}
 use borrow.Author.Rules.{rules}
 use Rattle.frame_lines.proofs.line.read_tested.Statement.{statement}
 use Rattle.frame_lines.proofs.line.read_tested.Tie as tie
@@ -49,7 +49,7 @@ all-digits-requires : tie.Need-all-digits-requires invariant-loop decreases-loop
 all-digits-requires c κs = search rules
 
 same_length : tie.Need-same-length invariant-loop decreases-loop
-same_length c = kept_length _ _ _ _ c.before.before.before.before.loop.invariant
+same_length c = kept-length _ _ _ _ c.before.before.before.before.loop.invariant
 
 returns : tie.Need-returns invariant-loop decreases-loop
 returns c = stops _ _ _ _ c.before.before.before.before.loop.invariant (omega arith) (told c.before ∙ not-true c.before.all_digits.result c.if1.true)
@@ -76,7 +76,7 @@ loop-again c =
     rw c.before.before.put.ensures next
 
 same-length-2 : tie.Need-same-length-2 invariant-loop decreases-loop
-same-length-2 c = kept_length _ _ _ _ c.before.loop.invariant
+same-length-2 c = kept-length _ _ _ _ c.before.loop.invariant
 
 returns-2 : tie.Need-returns-2 invariant-loop decreases-loop
 returns-2 c = ends _ _ _ _ c.before.loop.invariant (omega arith)

@@ -3,11 +3,10 @@ use mathlib.Core.Path.{◌≡◌, sym, ap, subst, ◌∙◌}
 use Prim.Native.Nat.{ℕ, ◌+◌, ◌-◌, ◌/◌, ◌≤◌, ◌<◌, ◌^◌}
 use native.Mathlib.Omega.{arith}
 use lib.ListN.{length, take}
-use lib.Seq.{length-take-le, paste}
-use Rattle.frame_lines.specs.declared.search.Place.TheVariants.{At, Nowhere}
-use Rattle.frame_lines.specs.Answer.{answer_of}
+use lib.Seq.{length-take-le}
+use Rattle.frame_lines.specs.declared.lines.Feed.TheVariants.{At, Nowhere}
 use Rattle.frame_lines.specs.Feeds.{feed_from}
-use Rattle.frame_lines.proofs.Answers.{answer_fits, had_room}
+use Rattle.frame_lines.proofs.Answers.{answer_fits}
 use Rattle.frame_answers.specs.Stream.{State, view_of, EndedAs, FedAs}
 use Rattle.frame_answers.proofs.Turns.{SoFar, starts, out_length, found_at, goes_on, no_room, none_ends, ends_piece}
 use Rattle.frame_answers.proofs.Rest.{then_rest}
@@ -50,11 +49,6 @@ end c = c.before.before.before.before.before.before
 abbrev first : tie.After-put-reply → tie.Start
 first c = start (end c).before.before
 
-put_is : (c : tie.After-put-reply) →
-    let a = answer_of c.before.before.before.ended.result.reply in
-    (c.put-reply.result ≡ 0 + length a) × (c.put-reply.new.0 ≡ paste (first c).args.out.now 0 a (length a))
-put_is c = had_room _ _ _ _ _ (omega (arith, room (end c).before.before)) c.put-reply.ensures
-
 so_far : (c : tie.After-put-reply) → let s = (first c).args in
     SoFar (view_of s.self) s.piece.now s.out.now c.before.before.before.ended.result.stream ((end c).next.given.0.0 + 1) c.put-reply.result (length s.out.now / 5 - 1) c.put-reply.new.0
 so_far c =
@@ -63,13 +57,13 @@ so_far c =
     let n : (end c).next.given.0.0 ≡ (end c).next.given.0.0 - 0 = omega arith in
     goes_on _ _ _ _ _ _ _ _ (begins (first c)) _ (found (end c)) (room (end c).before.before) e.result
     (subst (λ (m : ℕ). EndedAs (view_of s.self) (take m s.piece.now) e.result) n e.ensures)
-    _ _ (put_is c)
+    _ _ c.put-reply.ensures
 
 -- the part of the slice for the other answers, five bytes fewer, lies within it
 within : (c : tie.After-put-reply) → c.put-reply.result + (length (first c).args.out.now - 5) ≤ length c.put-reply.new.0
 within c =
     let o = out_length _ _ _ _ _ _ _ _ (so_far c) in
-    omega (arith, o, room (end c).before.before, (put_is c).0, (answer_fits c.before.before.before.ended.result.reply).within)
+    omega (arith, o, room (end c).before.before, c.put-reply.ensures.0, (answer_fits c.before.before.before.ended.result.reply).within)
 
 -- where the others have been put too: what both lead to
 abbrev put_first : tie.After-out3 → tie.After-put-reply

@@ -5,12 +5,11 @@ use Prim.Native.Nat.{ℕ, ◌+◌, ◌-◌, ◌≤◌, ◌<◌}
 use native.Mathlib.Omega.{arith}
 use lib.Ieee.{binary32, of_bits}
 use lib.ListN.{length, take, drop, length-take, length-replicate}
-use Rattle.frame_lines.specs.declared.search.Place.TheVariants.{At, Nowhere}
+use Rattle.frame_lines.specs.declared.lines.Feed.TheVariants.{At, Nowhere}
 use Rattle.frame_lines.specs.Answer.{longest}
 use Rattle.frame_lines.specs.Stream.{ended}
 use Rattle.frame_lines.specs.Feeds.{feed_from, kept}
 use Rattle.frame_lines.specs.Parsed.{ParsedAs}
-use Rattle.frame_lines.proofs.Answers.{had_room}
 use Rattle.frame_lines.proofs.Meanings.{FrameOf, frame_of}
 use Rattle.frame_answers.specs.declared.stream.Stream.{Stream}
 use Rattle.frame_answers.specs.Stream.{view_of, Becomes, after_piece}
@@ -143,7 +142,7 @@ enum-known-ready : tie.Need-enum-known-ready invariant-loop decreases-loop
 enum-known-ready c = search rules
 
 put-reply-requires : tie.Need-put-reply-requires invariant-loop decreases-loop
-put-reply-requires c κs = search rules
+put-reply-requires c κs = room (sought c.before.before.before.before)
 
 loop-less : tie.Need-loop-smaller invariant-loop decreases-loop
 loop-less c = search rules
@@ -157,7 +156,7 @@ loop-again c =
       m.before.samples2.given,
       goes_on _ _ _ _ _ _ _ _ (so_far n) _ (found (end m)) n.before.loop-test.taken _
           (ends_within (stream n) g (start n).pre.1 _ _ (refused_early _ _ _ _ _ _ g.controller m.before.before.parse.ensures (sym m.made-ready.ensures ∙ r.ready.given.1)))
-          _ _ (had_room _ _ _ _ _ (room n) c.before.before.put-reply.ensures),
+          _ _ c.before.before.put-reply.ensures,
     )
 
 enum-known-ready-2 : tie.Need-enum-known-ready-2 invariant-loop decreases-loop
@@ -175,7 +174,7 @@ answer-frame-requires : tie.Need-answer-frame-requires invariant-loop decreases-
 answer-frame-requires c κs = (so_far (sought c.before.before.before.before)).becomes.good.controller
 
 put-reply-requires-2 : tie.Need-put-reply-requires-2 invariant-loop decreases-loop
-put-reply-requires-2 c κs = search rules
+put-reply-requires-2 c κs = room (sought c.before.before.before.before.before.before.before)
 
 loop-less-2 : tie.Need-loop-smaller-2 invariant-loop decreases-loop
 loop-less-2 c = let n = sought c.before.before.before.before.before.before.before.before.before.before in omega (arith, n.before.loop-test.taken)
@@ -189,7 +188,7 @@ loop-again-2 c =
       m.before.samples2.given,
       goes_on _ _ _ _ _ _ _ _ (so_far n) _ (found (end m)) n.before.loop-test.taken _
           (ends_within (stream n) (so_far n).becomes.good (start n).pre.1 _ _ (a.answer-frame.ensures _ (makes_calls _ _ _ _ _ _ _ (frame_is r))))
-          _ _ (had_room _ _ _ _ _ (room n) c.before.before.put-reply2.ensures),
+          _ _ c.before.before.put-reply2.ensures,
     )
 
 same-length-2 : tie.Need-same-length-2 invariant-loop decreases-loop

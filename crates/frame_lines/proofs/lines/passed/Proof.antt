@@ -1,17 +1,17 @@
--- `frame_lines::search::passed` meets its contract: 64 bytes at a turn. Assumes nothing.
+-- `frame_lines::lines::passed` meets its contract: 64 bytes at a turn. Assumes nothing.
 use mathlib.Core.Path.{◌≡◌, refl, ◌∙◌}
 use Prim.Native.Nat.{◌-◌}
 use borrow.Author.Rules.{rules}
 use lib.ListN.{length}
-use Rattle.frame_lines.specs.Search.{place_of}
-use Rattle.frame_lines.proofs.search.passed.Statement.{statement}
-use Rattle.frame_lines.proofs.search.passed.Tie as tie
+use Rattle.frame_lines.specs.Feeds.{feed_from}
+use Rattle.frame_lines.proofs.lines.passed.Statement.{statement}
+use Rattle.frame_lines.proofs.lines.passed.Tie as tie
 
 abbrev invariant-loop : tie.invariant-loop
-invariant-loop bytes start wanted i₀ i = place_of wanted bytes i ≡ place_of wanted bytes start
+invariant-loop bytes start i₀ i = feed_from bytes i ≡ feed_from bytes start
 
 abbrev decreases-loop : tie.decreases-loop
-decreases-loop bytes start wanted i₀ i = length bytes - i
+decreases-loop bytes start i₀ i = length bytes - i
 
 loop-holds : tie.Need-loop-init invariant-loop decreases-loop
 loop-holds c = refl
@@ -22,8 +22,8 @@ sub-if1 c = search rules
 returns : tie.Need-returns invariant-loop decreases-loop
 returns c = search rules
 
-among-next-requires : tie.Need-among-next-requires invariant-loop decreases-loop
-among-next-requires c κs = search rules
+feed-in-next-requires : tie.Need-feed-in-next-requires invariant-loop decreases-loop
+feed-in-next-requires c κs = search rules
 
 returns-2 : tie.Need-returns-2 invariant-loop decreases-loop
 returns-2 c = search rules
@@ -35,7 +35,7 @@ loop-less : tie.Need-loop-smaller invariant-loop decreases-loop
 loop-less c = search rules
 
 loop-again : tie.Need-loop-preserved invariant-loop decreases-loop
-loop-again c = c.before.among_next.ensures c.if2.false ∙ c.before.before.before.before.loop.invariant
+loop-again c = c.before.feed-in-next.ensures c.if2.false ∙ c.before.before.before.before.loop.invariant
 
 returns-3 : tie.Need-returns-3 invariant-loop decreases-loop
 returns-3 c = search rules
@@ -49,7 +49,7 @@ passed-spec =
     loop-holds
     sub-if1
     returns
-    among-next-requires
+    feed-in-next-requires
     returns-2
     add-i
     loop-less

@@ -1,4 +1,4 @@
--- `frame_lines::answer::put` meets its contract: the text is copied byte by byte. Assumes nothing.
+-- `frame_answers::stream::put` meets its contract: the text is copied byte by byte. Assumes nothing.
 use mathlib.Core.Path.{◌≡◌, sym, ap, ◌∙◌}
 use mathlib.Core.List.{List}
 use Prim.Native.Nat.{ℕ, ◌+◌, ◌-◌, ◌≤◌}
@@ -7,8 +7,8 @@ use native.Mathlib.Omega.{arith}
 use lib.ListN.{length, get_or, set}
 use lib.Seq.{paste, paste-zero, paste-suc, length-paste}
 use borrow.Author.Rules.{rules}
-use Rattle.frame_lines.proofs.answer.put.Statement.{statement}
-use Rattle.frame_lines.proofs.answer.put.Tie as tie
+use Rattle.frame_answers.proofs.stream.put.Statement.{statement}
+use Rattle.frame_answers.proofs.stream.put.Tie as tie
 
 abbrev invariant-loop : tie.invariant-loop
 invariant-loop out₀ at text count i₀ out i = (i ≤ count) × (out ≡ paste out₀ at text.bytes i)
