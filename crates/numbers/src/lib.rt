@@ -1,4 +1,6 @@
 // What several crates share: the natural number of an i32, its sign and size, bytes, words, truth values and flags, and the causes of a refusal.
+#![tactic(auto)]
+
 pub mod byte;
 pub mod flag;
 pub mod natural;

@@ -3,8 +3,7 @@ use mathlib.Core.Path.{◌≡◌, refl}
 use mathlib.Core.Bool.{true, false}
 use Prim.Native.Nat.{ℕ, zero, suc}
 use Rattle.numbers.specs.Flag.{is_set}
-use Rattle.numbers.proofs.flag.is_set.Statement.{statement}
-use Rattle.numbers.proofs.flag.is_set.Tie as tie
+use Rattle.numbers.proofs.flag.is_set.Goals as goal
 
 not_set : {n : ℕ} → n ≡ 0 → false ≡ is_set n
 unfolding is_set
@@ -15,11 +14,8 @@ unfolding is_set
 set zero a = absurd (a refl)
 set (suc n) a = refl
 
-returns : tie.Need-returns
-returns c = not_set c.if1.true
+pub returns-then-flag-eq0 : goal.returns-then-flag-eq0
+returns-then-flag-eq0 c = not_set c.if-flag-eq0.true
 
-returns-2 : tie.Need-returns-2
-returns-2 c = set _ c.if1.false
-
-pub is-set-spec : {M : Type 1} → statement M
-is-set-spec = tie.close (tie.spec returns returns-2)
+pub returns-else-flag-eq0 : goal.returns-else-flag-eq0
+returns-else-flag-eq0 c = set _ c.if-flag-eq0.false
