@@ -15,7 +15,7 @@ use numbers::refusal::Outcome;
 
 // All of a controller but its predictor, with the answer to its last recommendation: 1 and the volume, or 0 and 0 for none.
 #[repr(C)]
-#[derive(Drop)]
+#[derive(Clone, Copy)]
 pub struct Agc2Control {
     pub present: u32,
     pub volume: i32,
@@ -25,7 +25,7 @@ pub struct Agc2Control {
 // A controller with the answer to its making or to its last frame: 0 or the refusal's number, and 1 if the frame is marked near. Beside a refused making stands a controller of
 // one channel with the default settings.
 #[repr(C)]
-#[derive(Drop)]
+#[derive(Clone, Copy)]
 pub struct Agc2Controller {
     pub refusal: u32,
     pub near: u32,
@@ -35,7 +35,7 @@ pub struct Agc2Controller {
 
 // A stored record: 1 and the record, or 0 and zeros where there is none.
 #[repr(C)]
-#[derive(Drop)]
+#[derive(Clone, Copy)]
 pub struct Agc2Record {
     pub present: u32,
     pub average: f32,
@@ -45,7 +45,7 @@ pub struct Agc2Record {
 
 // Metrics over some records: 0 or the refusal's number, and 1 and the metrics, or 0 and zeros where there are none or beside a refusal.
 #[repr(C)]
-#[derive(Drop)]
+#[derive(Clone, Copy)]
 pub struct Agc2Metrics {
     pub refusal: u32,
     pub present: u32,
@@ -55,13 +55,13 @@ pub struct Agc2Metrics {
 }
 
 // A frame's answer and a recommendation's, without the controller.
-#[derive(Drop)]
+#[derive(Clone, Copy)]
 pub struct FrameNumbers {
     pub refusal: u32,
     pub near: u32,
 }
 
-#[derive(Drop)]
+#[derive(Clone, Copy)]
 pub struct VolumeNumbers {
     pub present: u32,
     pub volume: i32,

@@ -8,7 +8,7 @@ use input_volume_controller::{
 };
 
 // One volume, or a set: the other is not looked at.
-#[derive(Drop)]
+#[derive(Clone, Copy)]
 pub struct GivenVolumes {
     pub most: Limits,
     pub one: bool,

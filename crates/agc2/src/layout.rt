@@ -4,7 +4,7 @@ ghost use Rattle.agc2.specs.Layout.{layout};
 
 // Sizes, and the places of what stands within, in bytes.
 #[repr(C)]
-#[derive(Drop)]
+#[derive(Clone, Copy)]
 pub struct Agc2Layout {
     pub control_size: u32,
     pub control_state: u32,

@@ -1,5 +1,7 @@
 // The static library: the calls of `input_volume_controller` for C and Rust, with numbers for answers. A frame changes a controller in its place, and a
 // recommendation its control. The calls that leave the predictor alone take the control alone: the rings, which are most of a controller, are not copied for them.
+#![tactic(auto)]
+
 ghost use Rattle.std.specs.Prelude.{◌≡◌, [], pos, get_or};
 ghost use Rattle.numbers.specs.Flag.{is_set};
 ghost use Rattle.clipping_predictor_level_buffer.specs.Ring.{stored_says, stored_at};

@@ -12,7 +12,7 @@ use numbers::flag::{flag_of, is_set};
 
 // Any bits. The predictor is on unless its number is 0.
 #[repr(C)]
-#[derive(Drop)]
+#[derive(Clone, Copy)]
 pub struct Agc2Config {
     pub min_input_volume: i32,
     pub clipped_level_min: i32,
@@ -29,7 +29,7 @@ pub struct Agc2Config {
 
 // Any bits. The mode is event at 0, adaptive at 1 and fixed at any other number; threshold and margin are whole thousandths of a dB. The switch is the one above.
 #[repr(C)]
-#[derive(Drop)]
+#[derive(Clone, Copy)]
 pub struct Agc2PredictorConfig {
     pub mode: u32,
     pub window_length: i32,

@@ -1,5 +1,7 @@
 // Frame-wise clipping prediction and clipped level step estimation. Ports clipping_predictor.rs: `Box<dyn ClippingPredictor>` is a mode beside the state,
 // and `&mut self` a predictor by value that is handed back.
+#![tactic(auto)]
+
 ghost use Rattle.std.specs.Prelude.{◌≡◌, ◌*◌, ◌≤◌};
 ghost use Rattle.clipping_predictor.specs.Settings.{Good as GoodSettings};
 ghost use Rattle.clipping_predictor.specs.AllRings.{HeardOf, MayEnter, HeardLevelsOf};
@@ -24,7 +26,7 @@ pub mod settings;
 pub const MAX_CHANNELS: usize = 8;
 
 // One ring for each channel; those past the channel count are not used.
-#[derive(Drop)]
+#[derive(Clone, Copy)]
 pub struct ClippingPredictor {
     pub rings: [ClippingPredictorLevelBuffer; MAX_CHANNELS],
     pub channels: usize,
@@ -32,21 +34,21 @@ pub struct ClippingPredictor {
 }
 
 // What making answers. A refusal has a predictor of one channel beside it that is off.
-#[derive(Drop)]
+#[derive(Clone, Copy)]
 pub struct Created {
     pub answer: Outcome,
     pub predictor: ClippingPredictor,
 }
 
 // What a frame answers.
-#[derive(Drop)]
+#[derive(Clone, Copy)]
 pub struct Analyzed {
     pub answer: Outcome,
     pub predictor: ClippingPredictor,
 }
 
 // The predictor after a frame, what its rings answer then, and the most clipped samples that a channel of the frame has.
-#[derive(Drop)]
+#[derive(Clone, Copy)]
 pub struct Heard {
     pub predictor: ClippingPredictor,
     pub estimated: Estimated,
@@ -54,14 +56,14 @@ pub struct Heard {
 }
 
 // What an estimate is asked with, in range, or why it is refused.
-#[derive(Drop)]
+#[derive(Clone, Copy)]
 pub enum Arguments {
     Given(usize, Asked),
     Refused(Refusal),
 }
 
 // By how much the level is to fall, if at all, and whether the estimate is near.
-#[derive(Drop)]
+#[derive(Clone, Copy)]
 pub enum Estimate {
     Refused(Refusal),
     Nothing(bool),

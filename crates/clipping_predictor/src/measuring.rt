@@ -17,20 +17,20 @@ use clipping_predictor_level_buffer::level::{
 use numbers::refusal::{Outcome, Refusal};
 
 // A level for each channel, by its place; those past the channel count are silence.
-#[derive(Drop)]
+#[derive(Clone, Copy)]
 pub struct Levels {
     pub items: [Level; MAX_CHANNELS],
 }
 
 // What measuring a frame answers. A refusal has silence beside it.
-#[derive(Drop)]
+#[derive(Clone, Copy)]
 pub struct MeasuredChannels {
     pub levels: Levels,
     pub answer: Outcome,
 }
 
 // What a frame brings to a predictor: levels, whether they enter the rings, and the most clipped samples that a channel has.
-#[derive(Drop)]
+#[derive(Clone, Copy)]
 pub struct Brought {
     pub levels: Levels,
     pub hears: bool,

@@ -18,7 +18,7 @@ use levels::level::{MIN_LEVEL_DBFS, float_s16_to_dbfs, mean_square_level, peak_l
 use numbers::byte::{larger, less, smaller};
 
 // What an estimate is asked with: the level, the default step, and the ends between which a new level is held.
-#[derive(Drop)]
+#[derive(Clone, Copy)]
 pub struct Asked {
     pub level: u8,
     pub step: u8,
@@ -27,14 +27,14 @@ pub struct Asked {
 }
 
 // What is asked of the rings once a frame has entered them.
-#[derive(Drop)]
+#[derive(Clone, Copy)]
 pub enum Question {
     Nothing,
     Step(Asked),
 }
 
 // How far the level is to fall, 0 for none, and the least and the largest fall that turns of near tests can lead to.
-#[derive(Drop)]
+#[derive(Clone, Copy)]
 pub struct Estimated {
     pub drop: u8,
     pub low: u8,

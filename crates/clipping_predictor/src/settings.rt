@@ -6,7 +6,7 @@ use clipping_predictor_level_buffer::MAX_CAPACITY;
 use numbers::natural::Natural;
 use numbers::refusal::Refusal;
 
-#[derive(Drop)]
+#[derive(Clone, Copy)]
 pub enum ClippingPredictorMode {
     ClippingEventPrediction,
     AdaptiveStepClippingPeakPrediction,
@@ -14,7 +14,7 @@ pub enum ClippingPredictorMode {
 }
 
 // Any bits. Threshold and margin are whole thousandths of a dB.
-#[derive(Drop)]
+#[derive(Clone, Copy)]
 pub struct ClippingPredictorConfig {
     pub enabled: bool,
     pub mode: ClippingPredictorMode,
@@ -26,7 +26,7 @@ pub struct ClippingPredictorConfig {
 }
 
 // The same, in order.
-#[derive(Drop)]
+#[derive(Clone, Copy)]
 pub struct Settings {
     pub enabled: bool,
     pub mode: ClippingPredictorMode,
@@ -37,7 +37,7 @@ pub struct Settings {
     pub margin: i32,
 }
 
-#[derive(Drop)]
+#[derive(Clone, Copy)]
 pub enum Checked {
     InOrder(Settings),
     Refused(Refusal),

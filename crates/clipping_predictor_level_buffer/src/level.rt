@@ -14,7 +14,7 @@ pub const MAX_SAMPLES_PER_CHANNEL: usize = 480;
 // Frame-level statistics: the mean square, the largest magnitude, and how many samples are clipped. Metrics over several frames have the same
 // shape: a mean, the largest, and a total.
 #[repr(C)]
-#[derive(Drop)]
+#[derive(Clone, Copy)]
 pub struct Level {
     pub average: f32,
     pub max: f32,
@@ -22,28 +22,28 @@ pub struct Level {
 }
 
 // A frame's level, or why there is none.
-#[derive(Drop)]
+#[derive(Clone, Copy)]
 pub enum Measured {
     Level(Level),
     Refused(Refusal),
 }
 
 // The levels of two channels of one frame.
-#[derive(Drop)]
+#[derive(Clone, Copy)]
 pub struct TwoLevels {
     pub first: Level,
     pub second: Level,
 }
 
 // Both, or why there are none.
-#[derive(Drop)]
+#[derive(Clone, Copy)]
 pub enum MeasuredTwo {
     Levels(TwoLevels),
     Refused(Refusal),
 }
 
 // How far a measurement has come: the place of the next sample, and the sum of the squares, the peak and the clipped samples up to there.
-#[derive(Drop)]
+#[derive(Clone, Copy)]
 struct Running {
     at: usize,
     sum: f32,
@@ -52,14 +52,14 @@ struct Running {
 }
 
 // Two measurements.
-#[derive(Drop)]
+#[derive(Clone, Copy)]
 struct Both {
     first: Running,
     second: Running,
 }
 
 // A peak in four parts, each that of every fourth sample.
-#[derive(Drop)]
+#[derive(Clone, Copy)]
 struct Peaks {
     w: f32,
     x: f32,
@@ -68,7 +68,7 @@ struct Peaks {
 }
 
 // A measurement by fours: the sum of the squares, the peak in four parts, and the clipped samples.
-#[derive(Drop)]
+#[derive(Clone, Copy)]
 struct Taking {
     sum: f32,
     peaks: Peaks,

@@ -1,5 +1,7 @@
 // The ring that keeps the newest levels of one channel. Ports clipping_predictor_level_buffer.rs: the `Vec` is a fixed array with a
 // capacity, and `&mut self` a ring by value that is handed back.
+#![tactic(auto)]
+
 ghost use Rattle.std.specs.Prelude.{◌≡◌, ◌+◌, ◌≤◌, ◌<◌, min, pos, length, take, drop};
 ghost use Rattle.numbers.specs.Said.{outcome_says};
 ghost use Rattle.clipping_predictor_level_buffer.specs.Statistics.{larger};
@@ -20,7 +22,7 @@ pub const MAX_CAPACITY: usize = 64;
 
 // The newest record is at the tail, the one before it a place behind, and so on around; `size` of them are stored.
 #[repr(C)]
-#[derive(Drop)]
+#[derive(Clone, Copy)]
 pub struct ClippingPredictorLevelBuffer {
     pub data: [Level; MAX_CAPACITY],
     pub tail: usize,
@@ -29,21 +31,21 @@ pub struct ClippingPredictorLevelBuffer {
 }
 
 // What making a ring answers. A refusal has an empty ring of capacity 1 beside it.
-#[derive(Drop)]
+#[derive(Clone, Copy)]
 pub struct Made {
     pub answer: Outcome,
     pub ring: ClippingPredictorLevelBuffer,
 }
 
 // What a push answers. A refusal has the very ring beside it.
-#[derive(Drop)]
+#[derive(Clone, Copy)]
 pub struct AfterPush {
     pub ring: ClippingPredictorLevelBuffer,
     pub answer: Outcome,
 }
 
 // Metrics over some of the records, or why there are none.
-#[derive(Drop)]
+#[derive(Clone, Copy)]
 pub enum Metrics {
     Refused(Refusal),
     Missing,
@@ -51,7 +53,7 @@ pub enum Metrics {
 }
 
 // The record at a place, counted from the newest.
-#[derive(Drop)]
+#[derive(Clone, Copy)]
 pub enum Stored {
     Record(Level),
     Missing,

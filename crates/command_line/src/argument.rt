@@ -2,7 +2,7 @@
 ghost use Rattle.std.specs.Prelude.{◌≡◌};
 ghost use Rattle.command_line.specs.Argument.{same_text, begins_with_dash, argument_of};
 
-#[derive(Drop)]
+#[derive(Clone, Copy)]
 pub enum Argument {
     Help,
     Version,

@@ -8,7 +8,7 @@ use crate::output::failed;
 use libc::{PATH_MAX, STDIN_FILENO};
 
 // The argument that was looked at last, and what is read now: where nothing is open, `file` and `standard` say nothing.
-#[derive(Drop)]
+#[derive(Clone, Copy)]
 pub struct Input {
     pub at: usize,
     pub dashes: bool,
@@ -19,7 +19,7 @@ pub struct Input {
 }
 
 // What a reading brought: bytes; another argument; the end of a file, at which the next one is looked for; the end of all; or a failure, which has been told.
-#[derive(Drop)]
+#[derive(Clone, Copy)]
 pub enum Reading {
     Bytes,
     Argument,
@@ -29,7 +29,7 @@ pub enum Reading {
 }
 
 // So many bytes stand at the beginning of the piece.
-#[derive(Drop)]
+#[derive(Clone, Copy)]
 pub struct Got {
     pub input: Input,
     pub reading: Reading,

@@ -6,7 +6,7 @@ use crate::ending::Ending;
 use crate::output::{misused, write};
 use libc::PATH_MAX;
 
-#[derive(Drop)]
+#[derive(Clone, Copy)]
 pub enum Start {
     Run,
     Over(Ending),

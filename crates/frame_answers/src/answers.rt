@@ -13,7 +13,7 @@ use mono_input_volume_controller::speech_level::SpeechLevel;
 use numbers::refusal::Refusal;
 
 // What a line is answered, and the controller after it.
-#[derive(Drop)]
+#[derive(Clone, Copy)]
 pub struct Answered {
     pub controller: InputVolumeController,
     pub reply: Reply,

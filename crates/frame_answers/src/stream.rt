@@ -17,14 +17,14 @@ use mono_input_volume_controller::config::default_config;
 use mono_input_volume_controller::speech_level::SpeechLevel;
 use numbers::refusal::Refusal;
 
-#[derive(Drop)]
+#[derive(Clone, Copy)]
 pub struct Stream {
     pub controller: InputVolumeController,
     pub begun: Begun,
 }
 
 // What a piece leads to: the stream after it, how much of the piece is used, and how many bytes of answers were put.
-#[derive(Drop)]
+#[derive(Clone, Copy)]
 pub struct Fed {
     pub stream: Stream,
     pub used: usize,
@@ -32,14 +32,14 @@ pub struct Fed {
 }
 
 // What the end of a line leads to: the stream after it, and the answer.
-#[derive(Drop)]
+#[derive(Clone, Copy)]
 struct Ended {
     stream: Stream,
     reply: Reply,
 }
 
 // A line before a controller hears of it: refused whatever the controller is, or a frame of a size that may fit.
-#[derive(Drop)]
+#[derive(Clone, Copy)]
 enum Ready {
     Refused(Refusal),
     Frame(u8, f32, SpeechLevel, usize),

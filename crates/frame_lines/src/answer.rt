@@ -5,7 +5,7 @@ ghost use Rattle.frame_lines.specs.Answer.{digit_character, mark, volume_text, n
 use numbers::refusal::Refusal;
 
 // What there is to say: a recommended volume and whether its frame is near, or why the line is refused.
-#[derive(Drop)]
+#[derive(Clone, Copy)]
 pub enum Reply {
     Volume(u8, bool),
     Refused(Refusal),
@@ -15,7 +15,7 @@ pub enum Reply {
 pub const LONGEST: usize = 5;
 
 // The bytes of an answer, its line feed among them: the first `length` of these.
-#[derive(Drop)]
+#[derive(Clone, Copy)]
 pub struct Text {
     pub bytes: [u8; LONGEST],
     pub length: usize,

@@ -21,21 +21,21 @@ const AFTER_DASH: usize = 14;
 const AFTER_BITS: usize = 21;
 
 // What a line says: volume, speech probability, speech level, and how many samples it has.
-#[derive(Drop)]
+#[derive(Clone, Copy)]
 pub enum Parsed {
     Malformed,
     Frame(u8, f32, SpeechLevel, usize),
 }
 
 // Eight digits, or not.
-#[derive(Drop)]
+#[derive(Clone, Copy)]
 enum Word {
     Malformed,
     Number(u32),
 }
 
 // The speech level's field, with the blank behind it.
-#[derive(Drop)]
+#[derive(Clone, Copy)]
 enum Level {
     Malformed,
     Dash,
@@ -43,7 +43,7 @@ enum Level {
 }
 
 // The fields before the samples: volume, speech probability, speech level, and the place where the samples start.
-#[derive(Drop)]
+#[derive(Clone, Copy)]
 enum Head {
     Malformed,
     Fields(u8, f32, SpeechLevel, usize),

@@ -8,14 +8,14 @@ ghost use Rattle.frame_lines.specs.Feeds.{feed_from, Good, kept, Keeps};
 pub const KEPT_CHARACTERS: usize = 2001;
 
 // Where a line feed stands.
-#[derive(Drop)]
+#[derive(Clone, Copy)]
 pub enum Feed {
     At(usize),
     Nowhere,
 }
 
 // The beginning of a line, whose end is to come: the first `length` of these bytes.
-#[derive(Drop)]
+#[derive(Clone, Copy)]
 pub struct Begun {
     pub bytes: [u8; KEPT_CHARACTERS],
     pub length: usize,

@@ -1,5 +1,7 @@
 // Runs the stream of the frame-line program over many files, each with a fresh controller, and writes the answers to all of them. The gate compares these with answers that came with the files.
 // The files stand one after another in standard input, each with a byte behind it that none of them has. They are fed in pieces of many lengths, with room for two answers at a time.
+#![tactic(auto)]
+
 ghost use Rattle.std.specs.Prelude.{◌≤◌, ◌<◌, length};
 ghost use Rattle.frame_answers.specs.Stream.{Good};
 

@@ -1,4 +1,6 @@
 // How the gain rises from each input volume to the next, and the volume that a wanted change of gain leads to. Ports `GAIN_MAP` and the two copies of `compute_volume_update`.
+#![tactic(auto)]
+
 ghost use Rattle.std.specs.Prelude.{◌≡◌, pos, neg_ℤ};
 ghost use Rattle.gain_map.specs.Differences.{word_of, difference};
 ghost use Rattle.gain_map.specs.VolumeUpdate.{rise, fall, walk, update_says, volume_update_of};
@@ -83,7 +85,7 @@ pub fn walk_from(wanted: i32, volume: u8, min: u8, max: u8) -> u8
 }
 
 // A volume, or why there is none.
-#[derive(Drop)]
+#[derive(Clone, Copy)]
 pub enum VolumeUpdate {
     Volume(i32),
     Refused(Refusal),

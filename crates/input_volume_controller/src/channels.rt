@@ -16,7 +16,7 @@ use mono_input_volume_controller::mono::{
 use mono_input_volume_controller::speech_level::RmsError;
 
 // A call that every channel gets.
-#[derive(Drop)]
+#[derive(Clone, Copy)]
 pub enum ChannelCall {
     Initialize,
     CaptureOutputUsed(bool),
@@ -27,14 +27,14 @@ pub enum ChannelCall {
 
 // One controller for each channel; those past the count are not used.
 #[repr(C)]
-#[derive(Drop)]
+#[derive(Clone, Copy)]
 pub struct Channels {
     pub items: [MonoInputVolumeController; MAX_CHANNELS],
     pub count: usize,
 }
 
 // The lowest volume of some channels, and the first channel that has it.
-#[derive(Drop)]
+#[derive(Clone, Copy)]
 pub struct Aggregate {
     pub volume: u8,
     pub channel: usize,

@@ -1,5 +1,7 @@
 // Recommends the input volume of a capture device. Ports input_volume_controller.rs: `&mut self` is a controller by value that is handed back, and `AudioBuffer` one lent slice,
 // channels one after another.
+#![tactic(auto)]
+
 ghost use Rattle.std.specs.Prelude.{◌≡◌, [], pos, get_or};
 ghost use Rattle.clipping_predictor_level_buffer.specs.Ring.{stored_says, stored_at};
 ghost use Rattle.clipping_predictor_level_buffer.specs.Metrics.{metrics_says};
@@ -35,46 +37,46 @@ mod volume_control;
 mod volume_set;
 
 // The volume that a frame applied, as long as no recommendation has answered it.
-#[derive(Drop)]
+#[derive(Clone, Copy)]
 pub enum Applied {
     Nothing,
     Volume(u8),
 }
 
-#[derive(Drop)]
+#[derive(Clone, Copy)]
 pub struct InputVolumeController {
     pub control: VolumeControl,
     pub predictor: ClippingPredictor,
 }
 
 // What making answers. A refusal has a controller of one channel with the default settings beside it.
-#[derive(Drop)]
+#[derive(Clone, Copy)]
 pub struct Created {
     pub answer: Outcome,
     pub controller: InputVolumeController,
 }
 
 // What a frame answers: whether it is marked near, or why it is refused.
-#[derive(Drop)]
+#[derive(Clone, Copy)]
 pub enum Analysis {
     Accepted(bool),
     Refused(Refusal),
 }
 
-#[derive(Drop)]
+#[derive(Clone, Copy)]
 pub struct Analyzed {
     pub controller: InputVolumeController,
     pub answer: Analysis,
 }
 
 // The recommended volume, if there is one.
-#[derive(Drop)]
+#[derive(Clone, Copy)]
 pub enum Recommendation {
     Volume(i32),
     Nothing,
 }
 
-#[derive(Drop)]
+#[derive(Clone, Copy)]
 pub struct Recommended {
     pub answer: Recommendation,
     pub controller: InputVolumeController,

@@ -6,7 +6,7 @@ use clipping_predictor::MAX_CHANNELS;
 use clipping_predictor_level_buffer::level::MAX_SAMPLES_PER_CHANNEL;
 
 // Channels, and samples of each.
-#[derive(Drop)]
+#[derive(Clone, Copy)]
 pub struct Limits {
     pub channels: usize,
     pub samples: usize,

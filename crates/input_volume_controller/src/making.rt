@@ -16,7 +16,7 @@ use numbers::natural::Natural;
 use numbers::refusal::{Outcome, Refusal};
 
 // The answer, and what is built beside it, which is in order.
-#[derive(Drop)]
+#[derive(Clone, Copy)]
 pub struct Decided {
     pub answer: Outcome,
     pub channels: usize,

@@ -13,7 +13,7 @@ use mono_input_volume_controller::config::Settings;
 use numbers::flag::{flag_of, is_set};
 
 #[repr(C)]
-#[derive(Drop)]
+#[derive(Clone, Copy)]
 pub struct PlainControl {
     pub channels: Channels,
     pub controlling: usize,
@@ -27,7 +27,7 @@ pub struct PlainControl {
 }
 
 #[repr(C)]
-#[derive(Drop)]
+#[derive(Clone, Copy)]
 pub struct PlainPredictor {
     pub rings: [ClippingPredictorLevelBuffer; MAX_CHANNELS],
     pub channels: usize,

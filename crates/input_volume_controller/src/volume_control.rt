@@ -21,7 +21,7 @@ use mono_input_volume_controller::speech_level::{
     RmsError, SpeechError, SpeechLevel, get_speech_level_rms_error_db,
 };
 
-#[derive(Drop)]
+#[derive(Clone, Copy)]
 pub struct VolumeControl {
     // channel_controllers
     pub channels: Channels,
@@ -39,7 +39,7 @@ pub struct VolumeControl {
 }
 
 // What a recommendation answers.
-#[derive(Drop)]
+#[derive(Clone, Copy)]
 pub struct ControlRecommended {
     pub answer: Recommendation,
     pub control: VolumeControl,

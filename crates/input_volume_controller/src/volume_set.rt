@@ -8,7 +8,7 @@ use clipping_predictor::MAX_CHANNELS;
 use numbers::natural::Natural;
 
 // How many volumes were given, the volumes by their channels, and whether all lie from 0 to 255: if not, none is used. Nor is any of more than eight, or a place past the last.
-#[derive(Drop)]
+#[derive(Clone, Copy)]
 pub struct VolumeSet {
     pub levels: [u8; MAX_CHANNELS],
     pub count: usize,

@@ -4,7 +4,7 @@ ghost use Rattle.levels.specs.Decibels.{held32, held, infinity, plus, minus, les
 ghost use Rattle.levels.specs.declared.decibels.Decibels.TheVariants.{Finite};
 
 // A level, or a sum or difference of levels.
-#[derive(Drop)]
+#[derive(Clone, Copy)]
 pub enum Decibels {
     Finite(i32),
     PlusInfinity,

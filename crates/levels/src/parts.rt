@@ -3,7 +3,7 @@ ghost use Rattle.std.specs.Prelude.{◌≡◌};
 ghost use Rattle.levels.specs.FloatParts.{parts_of, magnitude_of, magnitude_bits_of};
 
 // The sign bit, the eight exponent bits and the 23 fraction bits. A not-a-number has none that are known.
-#[derive(Drop)]
+#[derive(Clone, Copy)]
 pub enum Parts {
     NotANumber,
     Fields {

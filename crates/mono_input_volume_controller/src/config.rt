@@ -5,7 +5,7 @@ ghost use Rattle.mono_input_volume_controller.specs.Config.{defaults, in_range, 
 use numbers::refusal::Refusal;
 
 // Any bits. target_range_experimental_max_dbfs is left out: nothing reads it.
-#[derive(Drop)]
+#[derive(Clone, Copy)]
 pub struct Config {
     pub min_input_volume: i32,
     pub clipped_level_min: i32,
@@ -22,7 +22,7 @@ pub struct Config {
 
 // The same, in order: volumes and waits are unsigned, and the update wait is at least 1. Words come before bytes, so that no gap is left.
 #[repr(C)]
-#[derive(Drop)]
+#[derive(Clone, Copy)]
 pub struct Settings {
     pub clipped_ratio: f32,
     pub clipped_wait: u32,
@@ -37,7 +37,7 @@ pub struct Settings {
     pub predicts: bool,
 }
 
-#[derive(Drop)]
+#[derive(Clone, Copy)]
 pub enum Checked {
     InOrder(Settings),
     Refused(Refusal),

@@ -18,7 +18,7 @@ const MAX_ABS_RMS_ERROR_DBFS: i32 = 15;
 
 // Each field stands under its name in the source. Whole words come first, then bytes, eight of them, so that no gap is left; so the floor, a volume, is a word.
 #[repr(C)]
-#[derive(Drop)]
+#[derive(Clone, Copy)]
 pub struct MonoInputVolumeController {
     // min_input_volume_after_clipping
     pub floor: u32,

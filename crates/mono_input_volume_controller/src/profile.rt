@@ -7,7 +7,7 @@ use crate::config::{Config, in_range, in_unit};
 use numbers::truth::both;
 
 // For everybody, or for group teaching.
-#[derive(Drop)]
+#[derive(Clone, Copy)]
 pub enum Profile {
     Plain,
     Classroom,

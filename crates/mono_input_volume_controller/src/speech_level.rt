@@ -7,21 +7,21 @@ use crate::config::both_in_range;
 use numbers::refusal::Refusal;
 
 // A speech level in dBFS, if there is one.
-#[derive(Drop)]
+#[derive(Clone, Copy)]
 pub enum SpeechLevel {
     Absent,
     Dbfs(f32),
 }
 
 // The error in dB, if there is one.
-#[derive(Drop)]
+#[derive(Clone, Copy)]
 pub enum RmsError {
     NoError,
     Db(i32),
 }
 
 // The error, or why there is none to ask for.
-#[derive(Drop)]
+#[derive(Clone, Copy)]
 pub enum SpeechError {
     Refused(Refusal),
     Error(RmsError),

@@ -3,7 +3,7 @@ ghost use Rattle.std.specs.Prelude.{◌≡◌};
 ghost use Rattle.numbers.specs.Natural.{within_of, at_least_of};
 
 // A number that lies in its range, or none.
-#[derive(Drop)]
+#[derive(Clone, Copy)]
 pub enum Natural {
     Number(usize),
     Outside,

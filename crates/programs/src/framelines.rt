@@ -16,13 +16,13 @@ const PIECE: usize = 65536;
 const ANSWERS: usize = 327680;
 
 // The stream after a turn, and whether to go on.
-#[derive(Drop)]
+#[derive(Clone, Copy)]
 struct Turn {
     stream: Stream,
     going: Going,
 }
 
-#[derive(Drop)]
+#[derive(Clone, Copy)]
 enum Going {
     On,
     Over(Ending),

@@ -4,7 +4,7 @@ ghost use Rattle.std.specs.Prelude.{◌≤◌, ◌<◌, length};
 use libc::STDIN_FILENO;
 
 // The place of a line in the space, without its line feed, and how many bytes there are read. Not whole: the input has ended before the line has.
-#[derive(Drop)]
+#[derive(Clone, Copy)]
 pub struct Line {
     pub start: usize,
     pub end: usize,

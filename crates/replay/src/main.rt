@@ -22,6 +22,8 @@
 //
 // A ring, a predictor and a controller are kept from line to line, each by itself. Every line is handed to all of them, and one answers it. Where a
 // record is shown it is `mean:peak:count`, the count of clipped samples in decimal.
+#![tactic(auto)]
+
 mod controller;
 mod input;
 mod predictor;
