@@ -1,10 +1,3 @@
-pub mod EachVolumeInto
 pub mod Flags
-pub mod Frames
 pub mod Handed
-pub mod InPlace
 pub mod Interleaved
-pub mod OfReference
-pub mod OneVolumeInto
-pub mod PassOn
-pub mod Stores

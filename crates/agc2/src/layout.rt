@@ -17,8 +17,7 @@ pub struct Agc2Layout {
     pub metrics_size: u32,
 }
 
-#[unsafe(no_mangle)]
-pub extern "C" fn agc2_layout_1() -> Agc2Layout
+pub fn agc2_layout_1() -> Agc2Layout
     ensures { result ≡ layout }
 {
     Agc2Layout {

@@ -66,8 +66,7 @@ fn beside(refusal: u32, near: u32, c: InputVolumeController) -> Agc2Controller
 }
 
 // Within a profile, 0 for everybody and any other number for group teaching, with any predictor: causes 1 to 6, then, with the predictor off too, 7, 14 and 15, and then 19. Every making comes here.
-#[unsafe(no_mangle)]
-pub extern "C" fn agc2_new_in_profile_by_value(
+pub fn agc2_new_in_profile_by_value(
     profile: u32,
     num_capture_channels: i32,
     config: Agc2Config,
@@ -87,8 +86,7 @@ pub extern "C" fn agc2_new_in_profile_by_value(
 }
 
 // For everybody, with any predictor: causes 1 to 6, and then, with the predictor off too, 7, 14 and 15.
-#[unsafe(no_mangle)]
-pub extern "C" fn agc2_new_with_predictor_by_value(
+pub fn agc2_new_with_predictor_by_value(
     num_capture_channels: i32,
     config: Agc2Config,
     predictor: Agc2PredictorConfig,
@@ -99,8 +97,7 @@ pub extern "C" fn agc2_new_with_predictor_by_value(
 }
 
 // For everybody, with the base's predictor: causes 1 to 6.
-#[unsafe(no_mangle)]
-pub extern "C" fn agc2_new_by_value(num_capture_channels: i32, config: Agc2Config) -> Agc2Controller
+pub fn agc2_new_by_value(num_capture_channels: i32, config: Agc2Config) -> Agc2Controller
     ensures { CreatedOf num_capture_channels (config_of config) result }
 {
     agc2_new_with_predictor_by_value(
@@ -110,8 +107,7 @@ pub extern "C" fn agc2_new_by_value(num_capture_channels: i32, config: Agc2Confi
     )
 }
 
-#[unsafe(no_mangle)]
-pub extern "C" fn agc2_initialize_by_value(control: PlainControl) -> PlainControl
+pub fn agc2_initialize_by_value(control: PlainControl) -> PlainControl
     requires { GoodControl (whole_control control) }
     ensures { ControlDoes (whole_control control) initialise done (whole_control result) }
 {
@@ -119,8 +115,7 @@ pub extern "C" fn agc2_initialize_by_value(control: PlainControl) -> PlainContro
 }
 
 // Off at 0, and on at any other number.
-#[unsafe(no_mangle)]
-pub extern "C" fn agc2_handle_capture_output_used_change_by_value(
+pub fn agc2_handle_capture_output_used_change_by_value(
     control: PlainControl,
     capture_output_used: u32,
 ) -> PlainControl
@@ -165,8 +160,7 @@ fn analyzed_into(
 }
 
 // With one volume for all channels. Causes 8 and 9.
-#[unsafe(no_mangle)]
-pub extern "C" fn agc2_analyze_input_audio_into(
+pub fn agc2_analyze_input_audio_into(
     controller: &mut Agc2Controller,
     applied_input_volume: i32,
     samples_per_channel: usize,
@@ -184,8 +178,7 @@ pub extern "C" fn agc2_analyze_input_audio_into(
 }
 
 // With a volume for each channel. Causes 20, 8 and 9.
-#[unsafe(no_mangle)]
-pub extern "C" fn agc2_analyze_input_audio_each_into(
+pub fn agc2_analyze_input_audio_each_into(
     controller: &mut Agc2Controller,
     volumes: &[i32],
     samples_per_channel: usize,
@@ -203,8 +196,7 @@ pub extern "C" fn agc2_analyze_input_audio_each_into(
 }
 
 // The word spotter's entry, with one volume for all channels. Causes 8, 9 and 18.
-#[unsafe(no_mangle)]
-pub extern "C" fn agc2_spotter_analyze_input_audio_into(
+pub fn agc2_spotter_analyze_input_audio_into(
     controller: &mut Agc2Controller,
     applied_input_volume: i32,
     samples_per_channel: usize,
@@ -222,8 +214,7 @@ pub extern "C" fn agc2_spotter_analyze_input_audio_into(
 }
 
 // The same with a volume for each channel. Causes 20, 8, 9 and 18.
-#[unsafe(no_mangle)]
-pub extern "C" fn agc2_spotter_analyze_input_audio_each_into(
+pub fn agc2_spotter_analyze_input_audio_each_into(
     controller: &mut Agc2Controller,
     volumes: &[i32],
     samples_per_channel: usize,
@@ -264,8 +255,7 @@ fn recommended(
 }
 
 // No speech level where its flag is 0.
-#[unsafe(no_mangle)]
-pub extern "C" fn agc2_recommend_input_volume_into(
+pub fn agc2_recommend_input_volume_into(
     control: &mut Agc2Control,
     speech_probability: f32,
     has_speech_level: u32,
@@ -283,16 +273,14 @@ pub extern "C" fn agc2_recommend_input_volume_into(
 }
 
 // The controller's volume.
-#[unsafe(no_mangle)]
-pub extern "C" fn agc2_recommended_input_volume_by_value(control: PlainControl) -> i32
+pub fn agc2_recommended_input_volume_by_value(control: PlainControl) -> i32
     ensures { result ≡ pos (control_of (whole_control control)).volume }
 {
     control.volume as i32
 }
 
 // The i-th record that a channel's ring stores, the newest being the 0th.
-#[unsafe(no_mangle)]
-pub extern "C" fn agc2_stored_record_by_value(
+pub fn agc2_stored_record_by_value(
     controller: Agc2Controller,
     channel: usize,
     i: usize,
@@ -304,8 +292,7 @@ pub extern "C" fn agc2_stored_record_by_value(
 }
 
 // The metrics over `num_items` records that a channel's ring stores, behind the newest `delay`. Refuses with 11.
-#[unsafe(no_mangle)]
-pub extern "C" fn agc2_compute_partial_metrics_by_value(
+pub fn agc2_compute_partial_metrics_by_value(
     controller: Agc2Controller,
     channel: usize,
     delay: i32,

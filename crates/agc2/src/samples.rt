@@ -31,8 +31,7 @@ fn separate(channels: usize, moments: usize, samples: &[i16], frame: &mut [f32])
 }
 
 // Interleaved samples of 16 bits, moment after moment, as a frame. Samples behind the last whole moment are left out, and without room for all others nothing is written.
-#[unsafe(no_mangle)]
-pub extern "C" fn agc2_frame_of_interleaved_i16(channels: usize, samples: &[i16], frame: &mut [f32])
+pub fn agc2_frame_of_interleaved_i16(channels: usize, samples: &[i16], frame: &mut [f32])
     ensures { frame.new ≡ laid (interleaved_frame channels samples.now) frame.old }
 {
     if channels == 0 {
@@ -55,8 +54,7 @@ pub extern "C" fn agc2_frame_of_interleaved_i16(channels: usize, samples: &[i16]
 }
 
 // Samples with a full scale of 1.0 as a frame. Without room for all of them nothing is written.
-#[unsafe(no_mangle)]
-pub extern "C" fn agc2_frame_of_unit(samples: &[f32], frame: &mut [f32])
+pub fn agc2_frame_of_unit(samples: &[f32], frame: &mut [f32])
     ensures { frame.new ≡ laid (unit_frame samples.now) frame.old }
 {
     let count = samples.len();

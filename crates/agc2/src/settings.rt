@@ -76,8 +76,7 @@ fn in_numbers(c: Config) -> Agc2Config
 }
 
 // The source's default settings.
-#[unsafe(no_mangle)]
-pub extern "C" fn agc2_default_config() -> Agc2Config
+pub fn agc2_default_config() -> Agc2Config
     ensures { result ≡ in_numbers defaults }
 {
     in_numbers(mono_input_volume_controller::config::default_config())
@@ -122,8 +121,7 @@ pub fn profile_of(number: u32) -> Profile
 }
 
 // The base's predictor, which `agc2_new_by_value` takes.
-#[unsafe(no_mangle)]
-pub extern "C" fn agc2_default_predictor_config() -> Agc2PredictorConfig
+pub fn agc2_default_predictor_config() -> Agc2PredictorConfig
     ensures { result ≡ predictor_in_numbers base_predictor }
 {
     predictor_in_numbers(input_volume_controller::default_predictor_config())

@@ -2,8 +2,7 @@
 ghost use Rattle.std.specs.Prelude.{◌≡◌};
 ghost use Rattle.agc2.specs.Version.{version};
 
-#[unsafe(no_mangle)]
-pub extern "C" fn agc2_version() -> u32
+pub fn agc2_version() -> u32
     ensures { result ≡ version }
 {
     10000
