@@ -17,7 +17,6 @@ use Rattle.mono_input_volume_controller.specs.declared.profile.Profile.{Profile}
 use Rattle.numbers.specs.declared.refusal.Refusal.{Refusal}
 use Rattle.input_volume_controller.specs.declared.limits.Limits.{Limits}
 use Rattle.input_volume_controller.specs.declared.Analysis.{Analysis}
-use Rattle.input_volume_controller.specs.declared.Analysis.TheVariants as Analysis
 use Rattle.input_volume_controller.specs.declared.Analyzed.{Analyzed}
 use Rattle.input_volume_controller.specs.declared.Created.{Created}
 use Rattle.input_volume_controller.specs.declared.volume_control.VolumeControl.{VolumeControl}

@@ -1,6 +1,5 @@
 -- Document 01's answers in numbers: 0 or the refusal's number, with the values beside it, and 0 where there is none. Definitions only.
-use Rattle.std.specs.Prelude.{ℕ, zero, suc, ℤ, pos, Float}
-use Rattle.std.proofs.Math.Option as Option
+use Rattle.std.specs.Prelude.{ℕ, zero, suc, pos, Float}
 use Rattle.std.proofs.Math.Option.{Option, some}
 use Rattle.std.specs.Float.{binary32}
 use Rattle.std.specs.Float.Ieee.{of_bits}
