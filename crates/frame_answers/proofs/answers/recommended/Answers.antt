@@ -1,0 +1,49 @@
+-- `frame_answers::answers::recommended` meets its contract. Assumes nothing.
+use mathlib.Core.Path.{◌≡◌, sym, ap, ◌∙◌}
+use Prim.Native.Nat.{ℕ}
+use native.Mathlib.Omega.{arith}
+use lib.IntN.{pos, nat_abs}
+use Rattle.input_volume_controller.specs.Reply.{Reply, volume, recommendation_says}
+use Rattle.numbers.proofs.Signs.{again}
+use Rattle.frame_answers.specs.LineStep.{recommended, volume_in}
+use Rattle.frame_answers.proofs.Recommended.{says_volume, same_volume}
+use borrow.Author.Rules.{rules}
+use Rattle.frame_answers.proofs.answers.recommended.Goals as goal
+use Rattle.frame_answers.proofs.answers.recommended.Goals.{After-size, In-Volume}
+
+-- the volume that is recommended, as it is shown
+size_is : (c : After-size) → c.size.result ≡ nat_abs c.in-Volume.volume
+size_is c = c.size.ensures ∙ ap nat_abs (again c.in-Volume.volume c.in-Volume.known_told-1-own.given.0.1)
+
+volume-said : (c : In-Volume) → volume c.in-Volume.volume ≡ recommendation_says c.recommend_input_volume-done.result.answer
+volume-said c = sym (ap recommendation_says c.in-Volume.is)
+
+pub returns-in_default : goal.returns-in_default
+unfolding volume_in
+returns-in_default c =
+    record {
+      leads = record {
+        good = c.recommend_input_volume-done.ensures.good;
+        reply = ap (λ (r : Reply). recommended (volume_in r) c.args.near) (sym (ap recommendation_says c.in_default.is) ∙ c.recommend_input_volume-done.ensures.reply);
+        view = c.recommend_input_volume-done.ensures.view;
+      };
+      accepted = λ cause e. let z : ◌≡◌ {A = ℕ} 0 1 = cc in omega arith;
+    }
+
+pub overflow_cast-result : goal.overflow_cast-result
+overflow_cast-result c =
+    let m = says_volume c.args.controller _ _ _ _ c.recommend_input_volume-done.ensures c.requires.1 in
+    let e : c.in-Volume.volume ≡ pos m.shown = same_volume _ _ (volume-said c.before ∙ m.is) in
+    omega (arith, size_is c, ap nat_abs e, m.most)
+
+pub returns : goal.returns
+unfolding volume_in
+returns c =
+    record {
+      leads = record {
+        good = c.recommend_input_volume-done.ensures.good;
+        reply = ap (λ (n : ℕ). recommended n c.args.near) (size_is c) ∙ ap (λ (r : Reply). recommended (volume_in r) c.args.near) (volume-said c.before ∙ c.recommend_input_volume-done.ensures.reply);
+        view = c.recommend_input_volume-done.ensures.view;
+      };
+      accepted = λ cause e. let z : ◌≡◌ {A = ℕ} 0 1 = cc in omega arith;
+    }
