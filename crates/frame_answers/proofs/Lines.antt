@@ -21,7 +21,6 @@ use Rattle.mono_input_volume_controller.specs.MonoState.{max_input_volume}
 use Rattle.input_volume_controller.specs.Frame.{tested_as, unless_refused, analyze_input_audio}
 use Rattle.mono_input_volume_controller.specs.declared.speech_level.SpeechLevel.{SpeechLevel}
 use Rattle.input_volume_controller.specs.declared.Analysis.{Analysis}
-use Rattle.input_volume_controller.specs.declared.Analysis.TheVariants as Analysis
 use Rattle.input_volume_controller.specs.declared.Analyzed.{Analyzed}
 use Rattle.input_volume_controller.specs.declared.InputVolumeController.{InputVolumeController}
 use Rattle.input_volume_controller.specs.Controller.{Controller, view_of, Good}
@@ -32,7 +31,6 @@ use Rattle.input_volume_controller.specs.Calls.{Call, frame, recommendation, ste
 use Rattle.input_volume_controller.proofs.Whole.{control_count}
 use Rattle.frame_lines.specs.declared.answer.Reply.TheVariants.{Refused}
 use Rattle.frame_lines.specs.declared.line.Parsed.{Parsed}
-use Rattle.frame_lines.specs.declared.line.Parsed.TheVariants as Parsed
 use Rattle.frame_lines.specs.declared.line.Parsed.TheVariants.{Malformed}
 use Rattle.frame_lines.specs.Line.{Fields, most_samples, meaning}
 use Rattle.frame_lines.specs.Parsed.{float_of, speech_level_of, parsed_of, sample_of, ParsedAs}
@@ -40,7 +38,6 @@ use Rattle.frame_lines.proofs.Meanings.{FrameOf, few_samples, small_volume}
 use Rattle.frame_answers.specs.declared.answers.Answered.{Answered}
 use Rattle.frame_answers.specs.LineStep.{frame_call, recommendation_call, LineStep, refused_line, recommended_line, after_frame, meant_step, line_step}
 use Rattle.frame_answers.specs.declared.stream.Ready.{Ready}
-use Rattle.frame_answers.specs.declared.stream.Ready.TheVariants as Ready
 use Rattle.frame_answers.specs.Ready.{sized_if, ready_of}
 use Rattle.frame_answers.specs.Answered.{Leads, AnsweredAs, VolumePending, RecommendedAs, Makes, FrameAnsweredAs}
 use Rattle.input_volume_controller.proofs.SetNumbers.{equal_numbers}

@@ -14,7 +14,7 @@ use Rattle.input_volume_controller.specs.Controller as Controller
 use Rattle.frame_lines.specs.declared.answer.Text.{Text}
 use Rattle.frame_lines.specs.declared.lines.Begun.{Begun}
 use Rattle.frame_lines.specs.Answer.{answer_of, held}
-use Rattle.frame_lines.specs.Stream.{kept_characters, cut, ended, begun, last_line}
+use Rattle.frame_lines.specs.Stream.{kept_characters, cut, ended, last_line}
 use Rattle.frame_lines.specs.Feeds.{kept, Keeps}
 use Rattle.frame_lines.proofs.Answers.{Fitting}
 use Rattle.frame_lines.proofs.Pieces.{begun_all, ended_take}

@@ -5,7 +5,6 @@ use Rattle.numbers.specs.declared.refusal.Refusal.TheVariants.{FrameLine}
 use Rattle.numbers.specs.Refusal.{number_of}
 use Rattle.input_volume_controller.specs.Controller.{Controller}
 use Rattle.input_volume_controller.specs.Reply.{Reply, mark, refusal, volume, done, Stepped}
-use Rattle.input_volume_controller.specs.Reply as Reply
 use Rattle.input_volume_controller.specs.Volumes.{equal_volumes}
 use Rattle.input_volume_controller.specs.Limits.{plain_limits}
 use Rattle.input_volume_controller.specs.Calls.{Call, frame, recommendation, step}

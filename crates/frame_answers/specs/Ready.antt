@@ -4,7 +4,6 @@ use Rattle.numbers.specs.declared.refusal.Refusal.TheVariants.{FrameLine, FrameS
 use Rattle.clipping_predictor_level_buffer.specs.Level.{is_frame_size}
 use Rattle.mono_input_volume_controller.specs.declared.speech_level.SpeechLevel.{SpeechLevel}
 use Rattle.frame_lines.specs.declared.line.Parsed.{Parsed}
-use Rattle.frame_lines.specs.declared.line.Parsed.TheVariants as Parsed
 use Rattle.frame_answers.specs.declared.stream.Ready.{Ready}
 use Rattle.frame_answers.specs.declared.stream.Ready.TheVariants.{Refused, Frame}
 

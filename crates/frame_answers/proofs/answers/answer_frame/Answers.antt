@@ -8,7 +8,6 @@ use mir.ValLaws.{to_z_pos}
 use Rattle.input_volume_controller.specs.Limits.{plain_limits}
 use Rattle.input_volume_controller.specs.Calls.{AnalyzedOf}
 use Rattle.frame_answers.proofs.Lines.{refused_as, pending_after, accepted_as}
-use borrow.Author.Rules.{rules}
 use Rattle.frame_answers.proofs.answers.answer_frame.Goals as goal
 
 -- what the frame's call says, with the volume as it came

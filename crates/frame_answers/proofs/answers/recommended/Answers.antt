@@ -7,7 +7,6 @@ use Rattle.input_volume_controller.specs.Reply.{Reply, volume, recommendation_sa
 use Rattle.numbers.proofs.Signs.{again}
 use Rattle.frame_answers.specs.LineStep.{recommended, volume_in}
 use Rattle.frame_answers.proofs.Recommended.{says_volume, same_volume}
-use borrow.Author.Rules.{rules}
 use Rattle.frame_answers.proofs.answers.recommended.Goals as goal
 use Rattle.frame_answers.proofs.answers.recommended.Goals.{After-size, In-Volume}
 

@@ -1,6 +1,5 @@
 -- `frame_answers::stream::made_ready` meets its contract: a malformed line, and one in order. Assumes nothing.
 use mathlib.Core.Path.{sym, ap, ◌∙◌}
-use borrow.Author.Rules.{rules}
 use Rattle.frame_answers.specs.Ready.{ready_of}
 use Rattle.frame_answers.proofs.stream.made_ready.Goals as goal
 

@@ -1,12 +1,11 @@
 -- `frame_answers::stream::put` meets its contract: the text is copied byte by byte. Assumes nothing.
 use mathlib.Core.Path.{◌≡◌, sym, ap, ◌∙◌}
 use mathlib.Core.List.{List}
-use Prim.Native.Nat.{ℕ, ◌+◌, ◌-◌, ◌≤◌}
+use Prim.Native.Nat.{ℕ, ◌+◌}
 use native.Mathlib.Numerals.{add-one}
 use native.Mathlib.Omega.{arith}
 use lib.ListN.{length, get_or, set}
 use lib.Seq.{paste, paste-zero, paste-suc, length-paste}
-use borrow.Author.Rules.{rules}
 use Rattle.frame_answers.proofs.stream.put.Goals as goal
 use Rattle.frame_answers.proofs.stream.put.Goals.{At-loop-i}
 

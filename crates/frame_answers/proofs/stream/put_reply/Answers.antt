@@ -7,7 +7,6 @@ use Rattle.frame_lines.specs.declared.answer.Text.{Text}
 use Rattle.frame_lines.specs.Answer.{answer_of}
 use Rattle.frame_lines.proofs.Answers.{answer_fits}
 use Rattle.frame_answers.proofs.Turns.{put_held}
-use borrow.Author.Rules.{rules}
 use Rattle.frame_answers.proofs.stream.put_reply.Goals as goal
 
 pub put-requires : goal.put-requires

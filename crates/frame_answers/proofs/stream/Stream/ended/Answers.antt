@@ -2,7 +2,6 @@
 use native.Mathlib.Omega.{arith}
 use lib.Seq.{length-take-le}
 use Rattle.frame_answers.proofs.Streams.{ends_begun}
-use borrow.Author.Rules.{rules}
 use Rattle.frame_answers.proofs.stream.Stream.ended.Goals as goal
 
 pub slice_bounds-answer_line-end : goal.slice_bounds-answer_line-end

@@ -2,7 +2,6 @@
 use native.Mathlib.Omega.{arith}
 use lib.Seq.{length-take-le}
 use Rattle.frame_answers.proofs.Streams.{nothing_left, line_left}
-use borrow.Author.Rules.{rules}
 use Rattle.frame_answers.proofs.stream.Stream.finish.Goals as goal
 
 pub returns-then-begun-eq0 : goal.returns-then-begun-eq0

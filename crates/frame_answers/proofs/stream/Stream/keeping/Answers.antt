@@ -1,6 +1,5 @@
 -- `frame_answers::stream::Stream::keeping` meets its contract. Assumes nothing.
 use Rattle.frame_answers.proofs.Streams.{keeps_part}
-use borrow.Author.Rules.{rules}
 use Rattle.frame_answers.proofs.stream.Stream.keeping.Goals as goal
 
 pub returns : goal.returns

@@ -1,7 +1,6 @@
 -- `frame_answers::stream::Stream::new` meets its contract. Assumes nothing.
 use mathlib.Core.Path.{refl}
 use Rattle.frame_answers.proofs.Streams.{starts_fresh}
-use borrow.Author.Rules.{rules}
 use Rattle.frame_answers.proofs.stream.Stream.new.Goals as goal
 
 pub returns : goal.returns

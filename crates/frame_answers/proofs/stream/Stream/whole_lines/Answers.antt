@@ -1,22 +1,19 @@
 -- `frame_answers::stream::Stream::whole_lines` meets its contract: at each turn the stream is fed a line. Assumes nothing.
 use mathlib.Core.Path.{◌≡◌, sym, ap, subst, ◌∙◌}
 use mathlib.Core.List.{List, ◌++◌}
-use Prim.Native.Nat.{ℕ, ◌+◌, ◌-◌, ◌≤◌, ◌<◌}
+use Prim.Native.Nat.{ℕ, ◌-◌, ◌≤◌, ◌<◌}
 use native.Mathlib.Omega.{arith}
 use lib.Ieee.{binary32, of_bits}
 use lib.ListN.{length, take, drop, length-take, length-replicate}
 use Rattle.frame_lines.specs.declared.lines.Feed.TheVariants.{At, Nowhere}
-use Rattle.frame_lines.specs.Answer.{longest}
 use Rattle.frame_lines.specs.Stream.{ended}
 use Rattle.frame_lines.specs.Feeds.{feed_from, kept}
 use Rattle.frame_lines.specs.Parsed.{ParsedAs}
 use Rattle.frame_lines.proofs.Meanings.{FrameOf, frame_of}
-use Rattle.frame_answers.specs.declared.stream.Stream.{Stream}
 use Rattle.frame_answers.specs.Stream.{view_of, Becomes, after_piece}
 use Rattle.frame_answers.proofs.Lines.{refused_early, was_parsed, few, makes_calls}
 use Rattle.frame_answers.proofs.Turns.{to_end, SoFar, starts, out_length, found_at, reply_room, goes_on, no_room, none_ends, ends_piece}
 use Rattle.frame_answers.proofs.Streams.{ends_within}
-use borrow.Author.Rules.{rules}
 use Rattle.frame_answers.proofs.stream.Stream.whole_lines.Goals as goal
 
 -- the answer to a line has room
@@ -51,7 +48,7 @@ keeping-requires c =
     let behind : take (length c.args.piece.now - c.loop-room.at) (drop c.loop-room.at c.args.piece.now) ≡ drop c.loop-room.at c.args.piece.now = to_end c.loop-room.at c.args.piece.now in
     let lost : feed_from c.args.piece.now c.loop-room.at ≡ Nowhere = sym c.next_feed-next.ensures ∙ c.in_default.is in (
       so_far.becomes.good,
-      ap (λ (t : List ℕ). ended (kept (record { controller = c.loop-room.controller; begun = c.args.self.begun }).begun ++ t)) (behind)
+      ap (λ (t : List ℕ). ended (kept c.args.self.begun ++ t)) (behind)
           ∙ none_ends _ _ _ _ _ _ _ _ (so_far) (lost) c.loop-room-test.true,
     )
 
@@ -100,7 +97,9 @@ overflow_add-at c =
     omega (arith, place.1)
 
 pub put_reply-written-requires : goal.put_reply-written-requires
-put_reply-written-requires c = room (c.before.before.before.before.before.before.before.before)
+put_reply-written-requires c =
+    let so_far : SoFar (view_of c.args.self) c.args.piece.now c.args.out.now (record { controller = c.loop-room.controller; begun = c.args.self.begun }) c.loop-room.at c.loop-room.written c.loop-room.room c.loop-room.out = c.loop-room.invariant.1 in
+    reply_room _ _ _ _ _ _ _ _ so_far c.loop-room-test.true
 
 pub loop-room-preserved-in-Refused : goal.loop-room-preserved-in-Refused
 loop-room-preserved-in-Refused c =
@@ -115,19 +114,23 @@ loop-room-preserved-in-Refused c =
 
 pub slice_bounds-samples-end : goal.slice_bounds-samples-end
 slice_bounds-samples-end c =
-    let frame_is : FrameOf (take (c.in-At.end - c.loop-room.at) (drop c.loop-room.at c.args.piece.now)) c.parse.new.1.0 c.in-Frame.volume c.in-Frame.probability c.in-Frame.level c.in-Frame.n = frame_of _ _ _ _ _ _ _ (omega (arith, c.loop-room.invariant.0)) (subst (ParsedAs _ _ _) (was_parsed _ _ _ _ _ (sym c.made_ready-ready.ensures ∙ c.in-Frame.is)) c.parse.ensures) in
+    let frame_is : FrameOf (take (c.in-At.end - c.loop-room.at) (drop c.loop-room.at c.args.piece.now)) c.parse.new.samples c.in-Frame.volume c.in-Frame.probability c.in-Frame.level c.in-Frame.n = frame_of _ _ _ _ _ _ _ (omega (arith, c.loop-room.invariant.0)) (subst (ParsedAs _ _ _) (was_parsed _ _ _ _ _ (sym c.made_ready-ready.ensures ∙ c.in-Frame.is)) c.parse.ensures) in
     omega (arith, few _ _ _ _ _ _ (frame_is), c.samples-in-loop-room-1.given)
 
 pub slice_bounds-answer_frame-end : goal.slice_bounds-answer_frame-end
 slice_bounds-answer_frame-end c =
-    let frame_is : FrameOf (take (c.in-At.end - c.loop-room.at) (drop c.loop-room.at c.args.piece.now)) c.parse.new.1.0 c.in-Frame.volume c.in-Frame.probability c.in-Frame.level c.in-Frame.n = frame_of _ _ _ _ _ _ _ (omega (arith, c.loop-room.invariant.0)) (subst (ParsedAs _ _ _) (was_parsed _ _ _ _ _ (sym c.made_ready-ready.ensures ∙ c.in-Frame.is)) c.parse.ensures) in
-    omega (arith, few _ _ _ _ _ _ (frame_is), length-take c.in-Frame.n c.parse.new.1.0)
+    let frame_is : FrameOf (take (c.in-At.end - c.loop-room.at) (drop c.loop-room.at c.args.piece.now)) c.parse.new.samples c.in-Frame.volume c.in-Frame.probability c.in-Frame.level c.in-Frame.n = frame_of _ _ _ _ _ _ _ (omega (arith, c.loop-room.invariant.0)) (subst (ParsedAs _ _ _) (was_parsed _ _ _ _ _ (sym c.made_ready-ready.ensures ∙ c.in-Frame.is)) c.parse.ensures) in
+    omega (arith, few _ _ _ _ _ _ (frame_is), length-take c.in-Frame.n c.parse.new.samples)
 
 pub answer_frame-done-requires : goal.answer_frame-done-requires
-answer_frame-done-requires c = (so_far (c.before.before.before.before.before.before.before.before)).becomes.good.controller
+answer_frame-done-requires c =
+    let so_far : SoFar (view_of c.args.self) c.args.piece.now c.args.out.now (record { controller = c.loop-room.controller; begun = c.args.self.begun }) c.loop-room.at c.loop-room.written c.loop-room.room c.loop-room.out = c.loop-room.invariant.1 in
+    so_far.becomes.good.controller
 
 pub put_reply-written-requires-in-Frame : goal.put_reply-written-requires-in-Frame
-put_reply-written-requires-in-Frame c = room (c.before.before.before.before.before.before.before.before.before.before.before)
+put_reply-written-requires-in-Frame c =
+    let so_far : SoFar (view_of c.args.self) c.args.piece.now c.args.out.now (record { controller = c.loop-room.controller; begun = c.args.self.begun }) c.loop-room.at c.loop-room.written c.loop-room.room c.loop-room.out = c.loop-room.invariant.1 in
+    reply_room _ _ _ _ _ _ _ _ so_far c.loop-room-test.true
 
 pub loop-room-smaller : goal.loop-room-smaller
 loop-room-smaller c = omega (arith, c.loop-room-test.true)
@@ -136,7 +139,7 @@ pub loop-room-preserved : goal.loop-room-preserved
 loop-room-preserved c =
     let so_far : SoFar (view_of c.args.self) c.args.piece.now c.args.out.now (record { controller = c.loop-room.controller; begun = c.args.self.begun }) c.loop-room.at c.loop-room.written c.loop-room.room c.loop-room.out = c.loop-room.invariant.1 in
     let found : feed_from c.args.piece.now c.loop-room.at ≡ At c.in-At.end = sym c.next_feed-next.ensures ∙ c.in-At.is in
-    let frame_is : FrameOf (take (c.in-At.end - c.loop-room.at) (drop c.loop-room.at c.args.piece.now)) c.parse.new.1.0 c.in-Frame.volume c.in-Frame.probability c.in-Frame.level c.in-Frame.n = frame_of _ _ _ _ _ _ _ (omega (arith, c.loop-room.invariant.0)) (subst (ParsedAs _ _ _) (was_parsed _ _ _ _ _ (sym c.made_ready-ready.ensures ∙ c.in-Frame.is)) c.parse.ensures) in (
+    let frame_is : FrameOf (take (c.in-At.end - c.loop-room.at) (drop c.loop-room.at c.args.piece.now)) c.parse.new.samples c.in-Frame.volume c.in-Frame.probability c.in-Frame.level c.in-Frame.n = frame_of _ _ _ _ _ _ _ (omega (arith, c.loop-room.invariant.0)) (subst (ParsedAs _ _ _) (was_parsed _ _ _ _ _ (sym c.made_ready-ready.ensures ∙ c.in-Frame.is)) c.parse.ensures) in (
       c.samples-in-loop-room-1.given,
       goes_on _ _ _ _ _ _ _ _ (so_far) _ (found) c.loop-room-test.true _
           (ends_within (record { controller = c.loop-room.controller; begun = c.args.self.begun }) so_far.becomes.good c.requires.1 _ _ (c.answer_frame-done.ensures _ (makes_calls _ _ _ _ _ _ _ (frame_is))))
