@@ -59,6 +59,22 @@ fn nothing<F>(input: Input<F>, reading: Reading) -> Got<F>
     }
 }
 
+// Standard input is read until the piece is full, the input ends or a read fails; so many bytes stand at the beginning of the piece.
+pub fn read_full<R: io::Input>(rt: &R, piece: &mut [u8]) -> usize
+    ensures { IsPrefixLen result piece.new }
+{
+    let mut reader = rt.reader();
+    let mut held = 0;
+    while held < piece.len() {
+        let n = reader.read(&mut piece[held..]).unwrap_or(0);
+        if n == 0 {
+            break;
+        }
+        held += n;
+    }
+    held
+}
+
 // std opens no file whose name is not text.
 fn opened<R: Files>(rt: &R, name: &[u8]) -> Result<R::File> {
     match str::from_utf8(name) {

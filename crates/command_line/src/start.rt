@@ -30,12 +30,7 @@ fn version<R: Print, E: Print>(rt: &R, errors: &E, program: &[u8]) -> Ending {
 }
 
 // The first option decides. Which arguments there are is the system's to say. One that is too long for a name is none of the options, and is told when it is to be opened.
-pub fn options<R: Env + Print, E: Print>(
-    rt: &R,
-    errors: &E,
-    program: &[u8],
-    help: &[u8],
-) -> Start
+pub fn options<R: Env + Print, E: Print>(rt: &R, errors: &E, program: &[u8], help: &[u8]) -> Start
     ensures { Free result }
 {
     let mut text = [0u8; PATH_MAX];
