@@ -1,5 +1,5 @@
 -- What a frame brings to a predictor: levels whose counts are in range, or nothing. Assumes nothing.
-use mathlib.Core.Path.{◌≡◌, refl, sym, ap, subst, ◌∙◌}
+use mathlib.Core.Path.{◌≡◌, sym, subst}
 use mathlib.Core.Bool.{Bool, true, false, ◌&&◌}
 use mathlib.Core.List.{List}
 use Prim.Native.Nat.{ℕ, zero, suc, ◌≤◌}
@@ -17,7 +17,7 @@ use Rattle.clipping_predictor.specs.declared.modes.Question.{Question}
 use Rattle.clipping_predictor.specs.declared.measuring.Levels.{Levels}
 use Rattle.clipping_predictor.specs.declared.measuring.Brought.{Brought}
 use Rattle.clipping_predictor.specs.Predictor.{max_channels, part_of, frame_fits}
-use Rattle.clipping_predictor.specs.FrameLevels.{silence, silent, level_if, levels_array}
+use Rattle.clipping_predictor.specs.FrameLevels.{silence, level_if, levels_array}
 use Rattle.clipping_predictor.specs.AllRings.{clipped_for, clipped_if, unheard_with, BroughtBy}
 use Rattle.clipping_predictor.proofs.MostClipped.{part_few}
 

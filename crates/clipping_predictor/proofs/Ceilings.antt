@@ -1,5 +1,5 @@
 -- The test against the nearest whole dB is the ceiling, and it is near exactly where P lies within the near distance of a whole dB from 0 to 14. Assumes nothing.
-use mathlib.Core.Path.{◌≡◌, refl, sym, ap, ◌∙◌}
+use mathlib.Core.Path.{◌≡◌, refl, ap, ◌∙◌}
 use mathlib.Core.Bool.{Bool, true, false, ◌&&◌, cond}
 use Prim.Native.Nat.{ℕ, zero, suc, ◌+◌, ◌-◌, ◌*◌, ◌/◌, ◌≤◌, ◌<◌}
 use native.Mathlib.Omega.{arith}
@@ -8,7 +8,6 @@ use lib.Dec.{ltb}
 use lib.IntN.{ℤ, pos, negsuc, nat_abs, ◌-ℤ◌}
 use borrow.Author.Tests.{le-leb, lt-leb, leb-true, lt-ltb, ltb-true, ltb-false}
 use Rattle.numbers.proofs.Truths.{both_true}
-use Rattle.numbers.proofs.Signs.{clash}
 use Rattle.levels.specs.declared.decibels.Decibels.TheVariants.{Finite}
 use Rattle.levels.specs.Decibels.{near, within, near_distance}
 use Rattle.clipping_predictor.specs.declared.modes.Asked.{Asked}

@@ -18,10 +18,8 @@ use Rattle.numbers.specs.declared.refusal.Refusal.{Refusal}
 use Rattle.numbers.specs.declared.refusal.Refusal.TheVariants.{ChannelCount}
 use Rattle.clipping_predictor_level_buffer.specs.declared.level.Level.{Level}
 use Rattle.clipping_predictor_level_buffer.specs.declared.level.Measured.{Measured}
-use Rattle.clipping_predictor_level_buffer.specs.declared.level.Measured.TheVariants as Measured
 use Rattle.clipping_predictor_level_buffer.specs.declared.level.TwoLevels.{TwoLevels}
 use Rattle.clipping_predictor_level_buffer.specs.declared.level.MeasuredTwo.{MeasuredTwo}
-use Rattle.clipping_predictor_level_buffer.specs.declared.level.MeasuredTwo.TheVariants as MeasuredTwo
 use Rattle.clipping_predictor_level_buffer.specs.Level.{max_samples_per_channel, frame_record, measure_of, two_records, measure_two_of}
 use Rattle.clipping_predictor_level_buffer.specs.Ring.{no_level}
 use Rattle.clipping_predictor.specs.declared.ClippingPredictor.{ClippingPredictor}

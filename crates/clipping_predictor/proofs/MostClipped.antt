@@ -1,6 +1,6 @@
 -- Clipped samples: what one more sample, and one more channel, adds to the count. Assumes nothing.
 use mathlib.Core.Path.{◌≡◌, refl, sym, ap, ◌∙◌}
-use mathlib.Core.List.{List, [], ◌∷◌, map, foldl}
+use mathlib.Core.List.{List, map, foldl}
 use Prim.Native.Nat.{ℕ, zero, suc, ◌+◌, ◌*◌, ◌≤◌, ◌<◌, max}
 use native.Mathlib.Omega.{arith}
 use lib.Ieee.{Float, nan}
@@ -8,16 +8,15 @@ use lib.ListN.{length, get_or, take, drop, length-take}
 use lib.Seq.{take_all}
 use Rattle.numbers.specs.Listed.{listed}
 use Rattle.numbers.proofs.Listed.{length_listed, get_d_listed, listed_same, map_listed}
-use Rattle.clipping_predictor_level_buffer.specs.declared.level.Level.{Level}
 use Rattle.clipping_predictor_level_buffer.specs.Clipped.{count_of, total, clipped_in}
 use Rattle.clipping_predictor_level_buffer.specs.Level.{frame_record}
 use Rattle.clipping_predictor_level_buffer.specs.Ring.{no_level}
 use Rattle.clipping_predictor_level_buffer.specs.Metrics.{clipped_of}
 use Rattle.clipping_predictor_level_buffer.proofs.Folds.{folded_more}
 use Rattle.clipping_predictor_level_buffer.proofs.Clipped.{count_most, clipped_most}
-use Rattle.clipping_predictor.specs.Predictor.{max_channels, part_of, levels_in}
+use Rattle.clipping_predictor.specs.Predictor.{max_channels, part_of}
 use Rattle.clipping_predictor.specs.FrameLevels.{levels_array}
-use Rattle.clipping_predictor.specs.MostClipped.{parts_of, most_clipped, most_counted}
+use Rattle.clipping_predictor.specs.MostClipped.{most_clipped, most_counted}
 use Rattle.clipping_predictor.proofs.FrameLevels.{array_at}
 
 -- count is that of the samples before i

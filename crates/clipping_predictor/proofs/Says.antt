@@ -6,9 +6,7 @@ use lib.IntN.{ℤ}
 use Rattle.numbers.specs.Said.{Said}
 use Rattle.numbers.proofs.Said.{fixed, cause_back, answer_of}
 use Rattle.clipping_predictor.specs.declared.settings.Checked.{Checked}
-use Rattle.clipping_predictor.specs.declared.settings.Checked.TheVariants as Checked
 use Rattle.clipping_predictor.specs.declared.Estimate.{Estimate}
-use Rattle.clipping_predictor.specs.declared.Estimate.TheVariants as Estimate
 use Rattle.clipping_predictor.specs.Settings.{checked_says}
 use Rattle.clipping_predictor.specs.EstimateCall.{DropAndMark, estimate_says}
 

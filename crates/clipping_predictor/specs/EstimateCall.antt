@@ -10,9 +10,7 @@ use Rattle.numbers.specs.Said.{Said, accepted, refused}
 use Rattle.clipping_predictor.specs.declared.modes.Asked.{Asked}
 use Rattle.clipping_predictor.specs.declared.modes.Estimated.{Estimated}
 use Rattle.clipping_predictor.specs.declared.Arguments.{Arguments}
-use Rattle.clipping_predictor.specs.declared.Arguments.TheVariants as Arguments
 use Rattle.clipping_predictor.specs.declared.Estimate.{Estimate}
-use Rattle.clipping_predictor.specs.declared.Estimate.TheVariants as Estimate
 use Rattle.clipping_predictor.specs.Turned.{estimated, is_near}
 use Rattle.clipping_predictor.specs.Estimate.{estimate_tree}
 use Rattle.clipping_predictor.specs.Predictor.{Predictor}

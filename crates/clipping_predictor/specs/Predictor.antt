@@ -17,7 +17,6 @@ use Rattle.clipping_predictor.specs.declared.settings.ClippingPredictorMode.TheV
 use Rattle.clipping_predictor.specs.declared.settings.ClippingPredictorConfig.{ClippingPredictorConfig}
 use Rattle.clipping_predictor.specs.declared.settings.Settings.{Settings}
 use Rattle.clipping_predictor.specs.declared.settings.Checked.{Checked}
-use Rattle.clipping_predictor.specs.declared.settings.Checked.TheVariants as Checked
 use Rattle.clipping_predictor.specs.declared.ClippingPredictor.{ClippingPredictor}
 use Rattle.clipping_predictor.specs.declared.Created.{Created}
 use Rattle.clipping_predictor.specs.declared.making.Decided.{Decided}

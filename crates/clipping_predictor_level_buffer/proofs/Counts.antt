@@ -8,7 +8,7 @@ use native.Mathlib.Nat.{not-suc-le-zero}
 use native.Mathlib.Omega.{arith}
 use lib.IntN.{ℤ, pos, negsuc}
 use lib.Ieee.{Float}
-use lib.ListN.{take}
+use lib.ListN.{get_or, take}
 use borrow.Author.Tests.{le-leb, lt-leb}
 use Rattle.numbers.specs.declared.natural.Natural.TheVariants.{Number, Outside}
 use Rattle.numbers.specs.declared.refusal.Refusal.TheVariants.{RingRange}
@@ -21,7 +21,7 @@ use Rattle.clipping_predictor_level_buffer.specs.declared.level.Level.{Level}
 use Rattle.clipping_predictor_level_buffer.specs.declared.ClippingPredictorLevelBuffer.{ClippingPredictorLevelBuffer}
 use Rattle.clipping_predictor_level_buffer.specs.Level.{max_samples_per_channel}
 use Rattle.clipping_predictor_level_buffer.specs.declared.AfterPush.{AfterPush}
-use Rattle.clipping_predictor_level_buffer.specs.Ring.{Counted, Good, stored, push, Pushed}
+use Rattle.clipping_predictor_level_buffer.specs.Ring.{no_level, Counted, Good, stored, push, Pushed}
 use Rattle.clipping_predictor_level_buffer.specs.Pushing.{is_count, offered, pushing_of, push_if, PushedOf}
 
 -- ---- lists whose records have a count from 0 to 480
@@ -30,7 +30,7 @@ pub counted_none : Counted []
 counted_none = record { each = λ i. omega arith }
 
 pub counted_more : (l : Level) (ls : List Level) → l.clipped ≤ max_samples_per_channel → Counted ls → Counted (l ∷ ls)
-counted_more l ls h k = record { each = λ i. elim i [ zero ↦ h | suc j ↦ k.each j ] }
+counted_more l ls h k = record { each = λ i. elim i as (λ n. (get_or (l ∷ ls) n no_level).clipped ≤ max_samples_per_channel) [ zero ↦ h | suc j ↦ k.each j ] }
 
 pub counted_tail : (l : Level) (ls : List Level) → Counted (l ∷ ls) → Counted ls
 counted_tail l ls k = record { each = λ i. k.each (suc i) }

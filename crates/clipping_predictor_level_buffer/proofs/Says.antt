@@ -4,13 +4,10 @@ use mathlib.Core.Option.{Option, none, some}
 use Rattle.numbers.proofs.Said.{fixed, cause_back, answer_of}
 use Rattle.clipping_predictor_level_buffer.specs.declared.level.Level.{Level}
 use Rattle.clipping_predictor_level_buffer.specs.declared.level.Measured.{Measured}
-use Rattle.clipping_predictor_level_buffer.specs.declared.level.Measured.TheVariants as Measured
 use Rattle.clipping_predictor_level_buffer.specs.declared.level.MeasuredTwo.{MeasuredTwo}
-use Rattle.clipping_predictor_level_buffer.specs.declared.level.MeasuredTwo.TheVariants as MeasuredTwo
 use Rattle.clipping_predictor_level_buffer.specs.declared.Metrics.{Metrics}
 use Rattle.clipping_predictor_level_buffer.specs.declared.Metrics.TheVariants.{Refused, Missing, Found}
 use Rattle.clipping_predictor_level_buffer.specs.declared.Stored.{Stored}
-use Rattle.clipping_predictor_level_buffer.specs.declared.Stored.TheVariants as Stored
 use Rattle.clipping_predictor_level_buffer.specs.Level.{measured_says, measured_two_says}
 use Rattle.clipping_predictor_level_buffer.specs.Ring.{stored_says}
 use Rattle.clipping_predictor_level_buffer.specs.Metrics.{metrics_says}

@@ -13,7 +13,6 @@ use Rattle.clipping_predictor_level_buffer.specs.declared.level.Measured.{Measur
 use Rattle.clipping_predictor_level_buffer.specs.declared.level.Measured.TheVariants.{Refused}
 use Rattle.clipping_predictor_level_buffer.specs.declared.level.TwoLevels.{TwoLevels}
 use Rattle.clipping_predictor_level_buffer.specs.declared.level.MeasuredTwo.{MeasuredTwo}
-use Rattle.clipping_predictor_level_buffer.specs.declared.level.MeasuredTwo.TheVariants as MeasuredTwo
 use Rattle.clipping_predictor_level_buffer.specs.Statistics.{mean, largest}
 use Rattle.clipping_predictor_level_buffer.specs.Clipped.{clipped_in}
 

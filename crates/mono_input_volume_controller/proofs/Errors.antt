@@ -16,7 +16,7 @@ use Rattle.numbers.specs.declared.refusal.Refusal.TheVariants.{TargetRange}
 use Rattle.mono_input_volume_controller.specs.declared.speech_level.RmsError.{RmsError}
 use Rattle.mono_input_volume_controller.specs.declared.speech_level.SpeechError.TheVariants as SpeechError
 use Rattle.mono_input_volume_controller.specs.Config.{in_range, both_in_range}
-use Rattle.mono_input_volume_controller.specs.SpeechError.{error_if_in_range, speech_error_of}
+use Rattle.mono_input_volume_controller.specs.SpeechError.{speech_error_of}
 use Rattle.mono_input_volume_controller.specs.SpeechLevel.{lowest, highest, lowest_db, highest_db, GoodTargets, held, error_of, rms_error_of}
 
 module _ (x : Float) where

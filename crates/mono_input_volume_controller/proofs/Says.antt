@@ -4,10 +4,8 @@ use mathlib.Core.Option.{Option, none, some}
 use lib.IntN.{ℤ}
 use Rattle.numbers.proofs.Said.{fixed, cause_back, answer_of}
 use Rattle.mono_input_volume_controller.specs.declared.config.Checked.{Checked}
-use Rattle.mono_input_volume_controller.specs.declared.config.Checked.TheVariants as Checked
 use Rattle.mono_input_volume_controller.specs.declared.speech_level.RmsError.TheVariants.{NoError, Db}
 use Rattle.mono_input_volume_controller.specs.declared.speech_level.SpeechError.{SpeechError}
-use Rattle.mono_input_volume_controller.specs.declared.speech_level.SpeechError.TheVariants as SpeechError
 use Rattle.mono_input_volume_controller.specs.Config.{checked_says}
 use Rattle.mono_input_volume_controller.specs.SpeechError.{speech_error_says}
 

@@ -9,7 +9,6 @@ use Rattle.numbers.specs.Said.{Said, accepted, refused}
 use Rattle.mono_input_volume_controller.specs.declared.config.Config.{Config}
 use Rattle.mono_input_volume_controller.specs.declared.config.Settings.{Settings}
 use Rattle.mono_input_volume_controller.specs.declared.config.Checked.{Checked}
-use Rattle.mono_input_volume_controller.specs.declared.config.Checked.TheVariants as Checked
 use Rattle.mono_input_volume_controller.specs.MonoState.{max_input_volume, max_wait}
 use Rattle.mono_input_volume_controller.specs.SpeechLevel.{lowest_db, highest_db, GoodTargets}
 

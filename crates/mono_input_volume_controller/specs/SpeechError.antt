@@ -8,7 +8,6 @@ use Rattle.mono_input_volume_controller.specs.declared.speech_level.SpeechLevel.
 use Rattle.mono_input_volume_controller.specs.declared.speech_level.RmsError.{RmsError}
 use Rattle.mono_input_volume_controller.specs.declared.speech_level.RmsError.TheVariants.{NoError, Db}
 use Rattle.mono_input_volume_controller.specs.declared.speech_level.SpeechError.{SpeechError}
-use Rattle.mono_input_volume_controller.specs.declared.speech_level.SpeechError.TheVariants as SpeechError
 use Rattle.mono_input_volume_controller.specs.SpeechLevel.{lowest_db, highest_db, rms_error_of}
 use Rattle.mono_input_volume_controller.specs.Config.{both_in_range}
 

@@ -1,0 +1,28 @@
+-- `clipping_predictor::modes::estimate_for` meets its contract: off, at or below the least level, or by the metrics of the two windows. Assumes nothing.
+use mathlib.Core.Path.{sym, ap, ap₂, ◌∙◌}
+use Prim.Native.Nat.{ℕ}
+use borrow.Author.Tests.{not-true, not-false}
+use Rattle.clipping_predictor_level_buffer.specs.declared.Metrics.{Metrics}
+use Rattle.clipping_predictor_level_buffer.specs.Ring.{stored}
+use Rattle.clipping_predictor_level_buffer.specs.Metrics.{partial_metrics}
+use Rattle.clipping_predictor_level_buffer.proofs.Says.{metrics_fixed}
+use Rattle.clipping_predictor.specs.Turned.{estimated}
+use Rattle.clipping_predictor.specs.Estimate.{windows_tree}
+use Rattle.clipping_predictor.proofs.Windows.{off, low, on}
+use Rattle.clipping_predictor.proofs.modes.estimate_for.Goals as goal
+
+pub returns-then-not-s : goal.returns-then-not-s
+returns-then-not-s c =
+    c.no_estimate.ensures ∙ sym (ap estimated (off c.args.s (stored c.args.ring) c.args.a (not-true _ c.if-not-s.true) c.requires.settings.window_low))
+
+pub returns-then-a : goal.returns-then-a
+returns-then-a c =
+    c.no_estimate-then-a.ensures ∙ sym (ap estimated (low c.args.s (stored c.args.ring) c.args.a c.if-a.true))
+
+pub returns : goal.returns
+returns c =
+    c.from_windows.ensures
+    ∙ ap₂ (λ (m r : Metrics). estimated (windows_tree c.args.s c.args.a m r))
+    (metrics_fixed c.partial_metrics-newest.result (partial_metrics c.args.ring.capacity (stored c.args.ring) 0 c.args.s.window) c.partial_metrics-newest.ensures ∙ ap (λ (n : ℕ). partial_metrics n (stored c.args.ring) 0 c.args.s.window) c.requires.capacity)
+    (metrics_fixed c.partial_metrics-older.result (partial_metrics c.args.ring.capacity (stored c.args.ring) c.args.s.delay c.args.s.reference) c.partial_metrics-older.ensures ∙ ap (λ (n : ℕ). partial_metrics n (stored c.args.ring) c.args.s.delay c.args.s.reference) c.requires.capacity)
+    ∙ sym (ap estimated (on c.args.s (stored c.args.ring) c.args.a (not-false _ c.if-not-s.false) c.if-a.false))

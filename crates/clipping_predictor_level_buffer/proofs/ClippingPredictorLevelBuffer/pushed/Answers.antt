@@ -1,0 +1,14 @@
+-- `clipping_predictor_level_buffer::ClippingPredictorLevelBuffer::pushed` meets its contract. Assumes nothing.
+use native.Mathlib.Omega.{arith}
+use Rattle.clipping_predictor_level_buffer.proofs.Places.{after_within}
+use Rattle.clipping_predictor_level_buffer.proofs.Records.{pushed}
+use Rattle.clipping_predictor_level_buffer.proofs.ClippingPredictorLevelBuffer.pushed.Goals as goal
+
+pub offset_bounds-r-at : goal.offset_bounds-r-at
+offset_bounds-r-at c = omega (arith, after_within c.args.self.capacity c.args.self.tail c.requires.0.within)
+
+pub bounds-r-at : goal.bounds-r-at
+bounds-r-at c = omega (arith, after_within c.args.self.capacity c.args.self.tail c.requires.0.within)
+
+pub returns : goal.returns
+returns c = rw (c.next-at.ensures, c.grown-size.ensures) (pushed c.args.self c.args.level c.requires.0 c.requires.1)

@@ -1,0 +1,60 @@
+-- `levels::decibels::at_most` meets its contract, case by case. Assumes nothing.
+use mathlib.Core.Path.{sym, ap, ap₂, ◌∙◌}
+use lib.Signed.{le_z}
+use Rattle.levels.specs.declared.decibels.Decibels.{Decibels}
+use Rattle.levels.specs.Decibels.{at_most}
+use Rattle.numbers.proofs.Signs.{again}
+use Rattle.levels.proofs.decibels.at_most.Goals as goal
+
+pub returns-in-Finite-b : goal.returns-in-Finite-b
+unfolding at_most
+returns-in-Finite-b c =
+    (λ i. le_z (again c.in-Finite.x c.in-Finite.known_told-1-own.given.0.1 i) (again c.in-Finite-b.y c.in-Finite-b.known_told-in-Finite-1-own.given.0.1 i)) ∙ sym (ap₂ at_most c.in-Finite.is c.in-Finite-b.is)
+
+pub returns-in-PlusInfinity-b : goal.returns-in-PlusInfinity-b
+unfolding at_most
+returns-in-PlusInfinity-b c = sym (ap₂ at_most c.in-Finite.is c.in-PlusInfinity-b.is)
+
+pub returns-in-MinusInfinity-b : goal.returns-in-MinusInfinity-b
+unfolding at_most
+returns-in-MinusInfinity-b c = sym (ap₂ at_most c.in-Finite.is c.in-MinusInfinity-b.is)
+
+pub returns-in-NotANumber-b : goal.returns-in-NotANumber-b
+unfolding at_most
+returns-in-NotANumber-b c = sym (ap₂ at_most c.in-Finite.is c.in-NotANumber-b.is)
+
+pub returns-in-Finite-b-2 : goal.returns-in-Finite-b-2
+unfolding at_most
+returns-in-Finite-b-2 c = sym (ap₂ at_most c.in-MinusInfinity.is c.in-Finite-b-2.is)
+
+pub returns-in-PlusInfinity-b-2 : goal.returns-in-PlusInfinity-b-2
+unfolding at_most
+returns-in-PlusInfinity-b-2 c = sym (ap₂ at_most c.in-MinusInfinity.is c.in-PlusInfinity-b-2.is)
+
+pub returns-in-MinusInfinity-b-2 : goal.returns-in-MinusInfinity-b-2
+unfolding at_most
+returns-in-MinusInfinity-b-2 c = sym (ap₂ at_most c.in-MinusInfinity.is c.in-MinusInfinity-b-2.is)
+
+pub returns-in-NotANumber-b-2 : goal.returns-in-NotANumber-b-2
+unfolding at_most
+returns-in-NotANumber-b-2 c = sym (ap₂ at_most c.in-MinusInfinity.is c.in-NotANumber-b-2.is)
+
+pub returns-in-Finite-b-3 : goal.returns-in-Finite-b-3
+unfolding at_most
+returns-in-Finite-b-3 c = sym (ap₂ at_most c.in-PlusInfinity.is c.in-Finite-b-3.is)
+
+pub returns-in-PlusInfinity-b-3 : goal.returns-in-PlusInfinity-b-3
+unfolding at_most
+returns-in-PlusInfinity-b-3 c = sym (ap₂ at_most c.in-PlusInfinity.is c.in-PlusInfinity-b-3.is)
+
+pub returns-in-MinusInfinity-b-3 : goal.returns-in-MinusInfinity-b-3
+unfolding at_most
+returns-in-MinusInfinity-b-3 c = sym (ap₂ at_most c.in-PlusInfinity.is c.in-MinusInfinity-b-3.is)
+
+pub returns-in-NotANumber-b-3 : goal.returns-in-NotANumber-b-3
+unfolding at_most
+returns-in-NotANumber-b-3 c = sym (ap₂ at_most c.in-PlusInfinity.is c.in-NotANumber-b-3.is)
+
+pub returns-in-NotANumber : goal.returns-in-NotANumber
+unfolding at_most
+returns-in-NotANumber c = sym (ap (λ (a : Decibels). at_most a c.args.b) c.in-NotANumber.is)

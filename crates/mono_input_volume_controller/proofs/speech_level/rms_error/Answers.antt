@@ -1,0 +1,14 @@
+-- `rms_error` meets its contract. Assumes nothing.
+use mathlib.Core.Path.{◌∙◌}
+use Rattle.numbers.proofs.Signs.{again}
+use Rattle.mono_input_volume_controller.proofs.Errors.{absent, present}
+use Rattle.mono_input_volume_controller.proofs.speech_level.rms_error.Goals as goal
+
+pub returns-in-Absent : goal.returns-in-Absent
+returns-in-Absent c = absent _ _ _ c.in-Absent.is
+
+pub returns-in-Dbfs : goal.returns-in-Dbfs
+returns-in-Dbfs c =
+    let min-is = again c.args.min c.ranges.min.sfits in
+    let max_is = again c.args.max c.ranges.max.sfits in
+    present _ _ _ _ _ _ _ _ c.in-Dbfs.is c.hold.ensures min-is max_is (again c.error_of.result c.error_of.type_inv ∙ c.error_of.ensures)
