@@ -1,5 +1,5 @@
 -- Assumes nothing.
-use Rattle.std.proofs.Common.{◌<◌, length, arith}
+use Rattle.std.proofs.Common.{arith}
 use Rattle.command_line.proofs.Texts.{other_lengths, goes_on, differ, ends}
 use Rattle.command_line.proofs.argument.same_text.Goals as goal
 
