@@ -88,14 +88,12 @@ fn answer_files<R: Print>(rt: &R, begun: Stream, s: &[u8]) -> Stream
 fn main(rt: HostRuntime) {
     let mut space = [0u8; 65536];
     let mut stream = Stream::new();
-    let mut turns = u64::MAX;
-    while turns > 0 {
+    for _ in 0..u64::MAX {
         let n = read_full(&rt, &mut space);
         if n == 0 {
             finished(&rt, stream);
             return;
         }
         stream = answer_files(&rt, stream, &space[..n]);
-        turns -= 1;
     }
 }

@@ -112,8 +112,7 @@ fn answer_all<R: Env + Files + io::Input + Print, E: Print>(rt: &R, errors: &E) 
     let mut out = [0u8; ANSWERS];
     let mut stream = Stream::new();
     let mut input = Input::<R::File>::new();
-    let mut turns = u64::MAX;
-    while turns > 0 {
+    for _ in 0..u64::MAX {
         let got = input.read(rt, errors, b"framelines", &mut piece);
         input = got.input;
         let reading = got.reading;
@@ -124,7 +123,6 @@ fn answer_all<R: Env + Files + io::Input + Print, E: Print>(rt: &R, errors: &E) 
         if let Going::Over(ending) = going {
             return ending;
         }
-        turns -= 1;
     }
     Ending::Failed
 }
