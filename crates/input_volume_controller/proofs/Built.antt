@@ -10,7 +10,6 @@ use Rattle.numbers.specs.declared.natural.Natural.TheVariants.{Number}
 use Rattle.numbers.specs.Natural.{within_of, at_least_of}
 use Rattle.numbers.specs.Said.{outcome_says}
 use Rattle.clipping_predictor.specs.declared.settings.Checked.{Checked}
-use Rattle.clipping_predictor.specs.declared.settings.Checked.TheVariants as Checked
 use Rattle.clipping_predictor.specs.declared.settings.ClippingPredictorConfig.{ClippingPredictorConfig}
 use Rattle.clipping_predictor.specs.declared.settings.Settings as Predictor
 use Rattle.clipping_predictor.specs.declared.Created as CreatedPredictor
@@ -21,7 +20,6 @@ use Rattle.clipping_predictor.specs.Predictor.{max_channels, Predictor, empty_pr
 use Rattle.clipping_predictor.specs.Predictor as PredictorOf
 use Rattle.mono_input_volume_controller.specs.declared.config.Settings.{Settings}
 use Rattle.input_volume_controller.specs.declared.volume_control.VolumeControl.{VolumeControl}
-use Rattle.input_volume_controller.specs.declared.Created.{Created}
 use Rattle.input_volume_controller.specs.declared.making.Decided.{Decided}
 use Rattle.input_volume_controller.specs.Control.{Control, control_of}
 use Rattle.input_volume_controller.specs.Control as ControlOf

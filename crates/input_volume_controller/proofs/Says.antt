@@ -3,9 +3,7 @@ use mathlib.Core.Path.{◌≡◌, refl, ap}
 use mathlib.Core.Bool.{false}
 use Rattle.numbers.proofs.Said.{fixed, cause_of, cause_back}
 use Rattle.input_volume_controller.specs.declared.Analysis.{Analysis}
-use Rattle.input_volume_controller.specs.declared.Analysis.TheVariants as Analysis
 use Rattle.input_volume_controller.specs.declared.Recommendation.{Recommendation}
-use Rattle.input_volume_controller.specs.declared.Recommendation.TheVariants as Recommendation
 use Rattle.input_volume_controller.specs.Reply.{Reply, mark, refusal, volume, none, done, analysis_says, recommendation_says}
 
 -- no frame says anything but a mark or a refusal

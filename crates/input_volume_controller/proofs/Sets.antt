@@ -13,7 +13,7 @@ use Rattle.numbers.specs.Listed.{listed}
 use Rattle.numbers.proofs.Listed.{drop_listed, drop_past, listed_same, listed_constant}
 use Rattle.clipping_predictor.specs.Predictor.{max_channels}
 use Rattle.mono_input_volume_controller.specs.MonoState.{max_input_volume}
-use Rattle.input_volume_controller.specs.Volumes.{Volumes, outside_set, number_set, and_volume, equal_volumes, numbers_of, lowest_from, lowest_of}
+use Rattle.input_volume_controller.specs.Volumes.{outside_set, number_set, and_volume, equal_volumes, numbers_of, lowest_from, lowest_of}
 use Rattle.input_volume_controller.specs.VolumeSet.{level_at}
 use Rattle.input_volume_controller.proofs.SetNumbers.{equal_numbers}
 

@@ -22,7 +22,6 @@ use Rattle.clipping_predictor.specs.Predictor as PredictorOf
 use Rattle.mono_input_volume_controller.specs.declared.config.Config.{Config}
 use Rattle.mono_input_volume_controller.specs.declared.config.Settings.{Settings}
 use Rattle.mono_input_volume_controller.specs.declared.config.Checked.{Checked}
-use Rattle.mono_input_volume_controller.specs.declared.config.Checked.TheVariants as Checked
 use Rattle.input_volume_controller.specs.declared.Applied.TheVariants.{Nothing}
 use Rattle.input_volume_controller.specs.declared.volume_control.VolumeControl.{VolumeControl}
 use Rattle.input_volume_controller.specs.declared.InputVolumeController.{InputVolumeController}

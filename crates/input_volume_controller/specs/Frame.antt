@@ -10,7 +10,6 @@ use Rattle.numbers.specs.Refusal.{number_of}
 use Rattle.clipping_predictor.specs.declared.modes.Asked.{Asked}
 use Rattle.clipping_predictor.specs.declared.modes.Estimated.{Estimated}
 use Rattle.clipping_predictor.specs.declared.modes.Question.{Question}
-use Rattle.clipping_predictor.specs.declared.modes.Question.TheVariants as Question
 use Rattle.clipping_predictor.specs.Predictor.{Predictor, frame_fits, entered_if, emptied}
 use Rattle.clipping_predictor.specs.AllRings.{predicted_by}
 use Rattle.input_volume_controller.specs.ClippedRatio.{clipped_ratio_of}

@@ -2,9 +2,7 @@
 use Rattle.std.specs.Prelude.{Bool, ℕ, ℤ}
 use Rattle.numbers.specs.Refusal.{number_of}
 use Rattle.input_volume_controller.specs.declared.Recommendation.{Recommendation}
-use Rattle.input_volume_controller.specs.declared.Recommendation.TheVariants as Recommendation
 use Rattle.input_volume_controller.specs.declared.Analysis.{Analysis}
-use Rattle.input_volume_controller.specs.declared.Analysis.TheVariants as Analysis
 use Rattle.input_volume_controller.specs.Controller.{Controller}
 
 pub data Reply : Type 0 where

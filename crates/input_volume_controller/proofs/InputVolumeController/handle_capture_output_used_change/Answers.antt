@@ -1,0 +1,6 @@
+-- `InputVolumeController::handle_capture_output_used_change` meets its contract. Assumes nothing.
+use Rattle.input_volume_controller.proofs.Whole.{does_whole}
+use Rattle.input_volume_controller.proofs.InputVolumeController.handle_capture_output_used_change.Goals as goal
+
+pub returns : goal.returns
+returns c = does_whole c.args.self _ _ _ c.requires tt c.handle_capture_output_used_change-c.ensures

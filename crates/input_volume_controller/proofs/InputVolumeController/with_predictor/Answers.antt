@@ -1,0 +1,10 @@
+-- `InputVolumeController::with_predictor` meets its contract: it is the plain making. Assumes nothing.
+use mathlib.Core.Path.{refl}
+use Rattle.mono_input_volume_controller.specs.declared.profile.Profile.TheVariants.{Plain}
+use Rattle.input_volume_controller.specs.Controller.{Making, CreatedAs}
+use Rattle.input_volume_controller.proofs.Profiles.{made_at}
+use Rattle.input_volume_controller.proofs.InputVolumeController.with_predictor.Goals as goal
+
+pub returns : goal.returns
+returns c =
+    made_at (λ (m : Making). CreatedAs m c.in_profile.result) Plain c.args.num_capture_channels c.ranges.num_capture_channels.sfits refl refl c.in_profile.ensures

@@ -1,0 +1,17 @@
+-- `plain::plain_control` meets its contract. Assumes nothing.
+use Rattle.input_volume_controller.specs.Plain.{plain_control}
+use Rattle.input_volume_controller.proofs.plain.plain_control.Goals as goal
+
+pub returns : goal.returns
+unfolding plain_control
+returns c =
+    λ i. record {
+      settings = c.args.c.settings;
+      channels = c.args.c.channels;
+      since = c.args.c.since;
+      used = c.args.c.used;
+      pending = c.is_pending.ensures i;
+      applied = c.pending_volume.ensures i;
+      volume = c.args.c.volume;
+      controlling = c.args.c.controlling;
+    }
