@@ -38,6 +38,7 @@ fn begins_with_dash(text: &[u8]) -> bool
     text[0] == b'-'
 }
 
+#[tactic(auto, unfolding(crate::specs::Argument::argument_of))]
 pub fn asked(text: &[u8]) -> Argument
     ensures { result ≡ argument_of text.now }
 {

@@ -1,6 +1,9 @@
-// The frame-line program, as the language can build it: its exit status is always 0. `tools/programs` builds it with its own.
+// The frame-line program.
 #![tactic(auto)]
 
-fn main() {
-    programs::framelines::framelines();
+use std::process::ExitCode;
+
+fn main(rt: HostRuntime) -> ExitCode {
+    let status = programs::framelines::framelines(&rt, &rt.stderr());
+    u8::try_from(status).map_or(ExitCode::FAILURE, ExitCode::from)
 }

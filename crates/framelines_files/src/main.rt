@@ -5,8 +5,8 @@
 ghost use Rattle.std.specs.Prelude.{◌≤◌, ◌<◌, length};
 ghost use Rattle.frame_answers.specs.Stream.{Good};
 
+use command_line::input::read_full;
 use frame_answers::stream::Stream;
-use libc::{STDIN_FILENO, STDOUT_FILENO};
 
 // ASCII's separator of files.
 const SEPARATOR: u8 = 28;
@@ -35,8 +35,8 @@ fn piece_end(at: usize, end: usize) -> usize
     if end - at < size { end } else { at + size }
 }
 
-// Answers a part of a file.
-fn answer_part(begun: Stream, text: &[u8]) -> Stream
+// Answers a part of a file. Where a write fails there is nobody to tell.
+fn answer_part<R: Print>(rt: &R, begun: Stream, text: &[u8]) -> Stream
     requires { Good begun }
     ensures { Good result }
 {
@@ -48,24 +48,24 @@ fn answer_part(begun: Stream, text: &[u8]) -> Stream
         let fed = stream.feed(&text[at..end], &mut out);
         stream = fed.stream;
         let written = fed.written;
-        io::write_all(STDOUT_FILENO, &out[..written]);
+        let _ = rt.write_all(&out[..written]);
         at += fed.used;
     }
     stream
 }
 
 // Answers the last line of a file, if it lacks its line feed.
-fn finished(stream: Stream)
+fn finished<R: Print>(rt: &R, stream: Stream)
     requires { Good stream }
 {
     let last = stream.finish();
     let length = last.length;
     let bytes = last.bytes;
-    io::write_all(STDOUT_FILENO, &bytes[..length]);
+    let _ = rt.write_all(&bytes[..length]);
 }
 
 // Answers what was read, and hands on the stream of the file that has not ended.
-fn answer_files(begun: Stream, s: &[u8]) -> Stream
+fn answer_files<R: Print>(rt: &R, begun: Stream, s: &[u8]) -> Stream
     requires { Good begun }
     ensures { Good result }
 {
@@ -73,11 +73,11 @@ fn answer_files(begun: Stream, s: &[u8]) -> Stream
     let mut at = 0;
     while at < s.len() {
         let end = file_end(s, at);
-        stream = answer_part(stream, &s[at..end]);
+        stream = answer_part(rt, stream, &s[at..end]);
         if s.len() <= end {
             return stream;
         }
-        finished(stream);
+        finished(rt, stream);
         stream = Stream::new();
         at = end + 1;
     }
@@ -85,17 +85,15 @@ fn answer_files(begun: Stream, s: &[u8]) -> Stream
 }
 
 // A loop must be shown to end: no input has so many pieces.
-fn main() {
+fn main(rt: HostRuntime) {
     let mut space = [0u8; 65536];
     let mut stream = Stream::new();
-    let mut turns = u64::MAX;
-    while turns > 0 {
-        let n = io::read_full(STDIN_FILENO, &mut space);
+    for _ in 0..u64::MAX {
+        let n = read_full(&rt, &mut space);
         if n == 0 {
-            finished(stream);
+            finished(&rt, stream);
             return;
         }
-        stream = answer_files(stream, &space[..n]);
-        turns -= 1;
+        stream = answer_files(&rt, stream, &space[..n]);
     }
 }

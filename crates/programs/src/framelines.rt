@@ -8,6 +8,9 @@ use command_line::input::{Input, Reading};
 use command_line::output::{close, write};
 use command_line::start::{Start, options};
 use frame_answers::stream::Stream;
+use std::io;
+use std::io::Print;
+use std::rt::{Env, Files};
 
 // So much is read at once, if so much is there.
 const PIECE: usize = 65536;
@@ -38,14 +41,20 @@ fn going_on(ending: Ending) -> Going {
 }
 
 // Answers all lines that end in a piece. A write that fails ends the program.
-fn answered(stream: Stream, piece: &[u8], out: &mut [u8]) -> Turn
+fn answered<R: Print, E: Print>(
+    rt: &R,
+    errors: &E,
+    stream: Stream,
+    piece: &[u8],
+    out: &mut [u8],
+) -> Turn
     requires { Good stream × (length piece.now * 5 ≤ length out.old) }
     ensures { Becomes (after_piece (view_of stream) piece.now) result.stream }
 {
     let fed = stream.feed(piece, out);
     let next = fed.stream;
     let written = fed.written;
-    let ending = write(b"framelines", &out[..written]);
+    let ending = write(rt, errors, b"framelines", &out[..written]);
     Turn {
         stream: next,
         going: going_on(ending),
@@ -53,7 +62,7 @@ fn answered(stream: Stream, piece: &[u8], out: &mut [u8]) -> Turn
 }
 
 // The end of a file ends its last line, whether or not that has its line feed.
-fn file_ended(stream: Stream, out: &mut [u8]) -> Turn
+fn file_ended<R: Print, E: Print>(rt: &R, errors: &E, stream: Stream, out: &mut [u8]) -> Turn
     requires { Good stream × (5 ≤ length out.old) }
     ensures { Good result.stream }
 {
@@ -64,24 +73,31 @@ fn file_ended(stream: Stream, out: &mut [u8]) -> Turn
             going: Going::On,
         };
     }
-    answered(stream, b"\n", out)
+    answered(rt, errors, stream, b"\n", out)
 }
 
 // One reading. A read that fails leaves a line that has not ended unanswered.
-fn after_reading(stream: Stream, reading: Reading, read: &[u8], out: &mut [u8]) -> Turn
+fn after_reading<R: Files + Print, E: Print>(
+    rt: &R,
+    errors: &E,
+    stream: Stream,
+    reading: Reading,
+    read: &[u8],
+    out: &mut [u8],
+) -> Turn
     requires { Good stream × (length read.now * 5 ≤ length out.old) × (5 ≤ length out.old) }
     ensures { Good result.stream }
 {
     match reading {
-        Reading::Bytes => answered(stream, read, out),
-        Reading::FileEnd => file_ended(stream, out),
+        Reading::Bytes => answered(rt, errors, stream, read, out),
+        Reading::FileEnd => file_ended(rt, errors, stream, out),
         Reading::Argument => Turn {
             stream,
             going: Going::On,
         },
         Reading::End => Turn {
             stream,
-            going: Going::Over(close(b"framelines")),
+            going: Going::Over(close(rt, errors, b"framelines")),
         },
         Reading::Failed => Turn {
             stream,
@@ -91,38 +107,38 @@ fn after_reading(stream: Stream, reading: Reading, read: &[u8], out: &mut [u8]) 
 }
 
 // A loop must be shown to end: no input has so many pieces.
-fn answer_all() -> Ending {
+fn answer_all<R: Env + Files + io::Input + Print, E: Print>(rt: &R, errors: &E) -> Ending {
     let mut piece = [0u8; PIECE];
     let mut out = [0u8; ANSWERS];
     let mut stream = Stream::new();
-    let mut input = Input::new();
-    let mut turns = u64::MAX;
-    while turns > 0 {
-        let got = input.read(b"framelines", &mut piece);
+    let mut input = Input::<R::File>::new();
+    for _ in 0..u64::MAX {
+        let got = input.read(rt, errors, b"framelines", &mut piece);
         input = got.input;
         let reading = got.reading;
         let n = got.count;
-        let t = after_reading(stream, reading, &piece[..n], &mut out);
+        let t = after_reading(rt, errors, stream, reading, &piece[..n], &mut out);
         stream = t.stream;
         let going = t.going;
         if let Going::Over(ending) = going {
             return ending;
         }
-        turns -= 1;
     }
     Ending::Failed
 }
 
-#[unsafe(no_mangle)]
-pub extern "C" fn framelines() -> i32
+// Its exit status. Standard output is the runtime's, and `errors` standard error.
+pub fn framelines<R: Env + Files + io::Input + Print, E: Print>(rt: &R, errors: &E) -> i32
     ensures { Free result }
 {
     let start = options(
+        rt,
+        errors,
         b"framelines",
         b"usage: framelines [FILE..]\nAnswers each frame line of the files with the recommended volume, one controller over all of them.\nWithout a file, or where it is -, standard input is read.\n  --help     this text\n  --version  the version, and what it was proved with\nThe exit status is 0, or 1 where a read or a write failed, or 2 at an unknown option.\n",
     );
     match start {
         Start::Over(ending) => status(ending),
-        Start::Run => status(answer_all()),
+        Start::Run => status(answer_all(rt, errors)),
     }
 }

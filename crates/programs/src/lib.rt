@@ -1,4 +1,4 @@
-// The programs, each as a function that answers its exit status. A program of the language itself cannot hand a status to the system: what C's `main` answers becomes one.
+// The programs, each as a function that answers its exit status, which the program's `main` hands to the system.
 #![tactic(auto)]
 
 pub mod framelines;

@@ -32,26 +32,31 @@ fn config(s: &[u8]) -> Config {
     }
 }
 
-fn accepted(c: InputVolumeController, full: bool) -> InputVolumeController
+fn accepted<R: Print>(rt: &R, c: InputVolumeController, full: bool) -> InputVolumeController
     requires { Good c }
     ensures { Good result }
 {
-    print::ok();
-    state::print_after(c, full);
+    print::ok(rt);
+    state::print_after(rt, c, full);
     c
 }
 
 // A refused making leaves the controller that was there.
-fn made(old: InputVolumeController, created: Created, full: bool) -> InputVolumeController
+fn made<R: Print>(
+    rt: &R,
+    old: InputVolumeController,
+    created: Created,
+    full: bool,
+) -> InputVolumeController
     requires { Good old × Good created.controller }
     ensures { Good result }
 {
     let answer = created.answer;
-    if !print::accepted(answer) {
+    if !print::accepted(rt, answer) {
         return old;
     }
     let controller = created.controller;
-    accepted(controller, full)
+    accepted(rt, controller, full)
 }
 
 // The predictor's fields stand behind the settings, of which the last has number 11. The switch is the one of the settings.
@@ -77,15 +82,15 @@ fn samples(s: &[u8], field: usize, n: usize, channels: usize) -> usize {
 }
 
 // What a frame handed back is written; a near one has an `n` behind its answer.
-fn told(done: Analyzed, full: bool) -> InputVolumeController
+fn told<R: Print>(rt: &R, done: Analyzed, full: bool) -> InputVolumeController
     requires { Good done.controller }
     ensures { Good result }
 {
     let next = done.controller;
     let answer = done.answer;
-    print::analysis(answer);
-    state::print_after(next, full);
-    print::mark(answer);
+    print::analysis(rt, answer);
+    state::print_after(rt, next, full);
+    print::mark(rt, answer);
     next
 }
 
@@ -107,7 +112,8 @@ fn analyzed(
 }
 
 // A frame, whose floats are in a field behind its volume.
-fn framed(
+fn framed<R: Print>(
+    rt: &R,
     c: InputVolumeController,
     short: bool,
     s: &[u8],
@@ -121,6 +127,7 @@ fn framed(
     let n = text::floats(s, field, &mut space);
     let each = samples(s, field, n, c.control.channels.count);
     told(
+        rt,
         analyzed(c, short, text::number(s, 0), each, &space[..n]),
         full,
     )
@@ -150,7 +157,12 @@ fn volumes(s: &[u8], count: usize) -> [i32; 16]
 }
 
 // A frame with a set of volumes: samples, how many volumes, the volumes, floats. Without fields it is no frame.
-fn framed_each(c: InputVolumeController, s: &[u8], full: bool) -> InputVolumeController
+fn framed_each<R: Print>(
+    rt: &R,
+    c: InputVolumeController,
+    s: &[u8],
+    full: bool,
+) -> InputVolumeController
     requires { Good c }
     ensures { Good result }
 {
@@ -163,6 +175,7 @@ fn framed_each(c: InputVolumeController, s: &[u8], full: bool) -> InputVolumeCon
     let mut space = [0.0f32; 3840];
     let n = text::floats(s, given + 2, &mut space);
     told(
+        rt,
         c.analyze_input_audio_each(&set[..count], text::natural(s, 0), &space[..n]),
         full,
     )
@@ -175,7 +188,8 @@ fn speech_level(s: &[u8]) -> SpeechLevel {
     SpeechLevel::Dbfs(text::float(s, 1))
 }
 
-fn recommended(
+fn recommended<R: Print>(
+    rt: &R,
     c: InputVolumeController,
     probability: f32,
     level: SpeechLevel,
@@ -187,47 +201,56 @@ fn recommended(
     let done = c.recommend_input_volume(probability, level);
     let next = done.controller;
     let answer = done.answer;
-    print::recommendation(answer);
-    state::print_after(next, full);
+    print::recommendation(rt, answer);
+    state::print_after(rt, next, full);
     next
 }
 
-fn dumped(c: InputVolumeController, full: bool) -> InputVolumeController
+fn dumped<R: Print>(rt: &R, c: InputVolumeController, full: bool) -> InputVolumeController
     requires { Good c }
     ensures { Good result }
 {
-    state::print_records(c, full);
+    state::print_records(rt, c, full);
     c
 }
 
 // The answer to one line, by its first letter.
-pub fn answer(letter: u8, c: InputVolumeController, s: &[u8], full: bool) -> InputVolumeController
+pub fn answer<R: Print>(
+    rt: &R,
+    letter: u8,
+    c: InputVolumeController,
+    s: &[u8],
+    full: bool,
+) -> InputVolumeController
     requires { Good c }
     ensures { Good result }
 {
     match letter {
         b'N' => made(
+            rt,
             c,
             InputVolumeController::new(text::number(s, 0), config(s)),
             full,
         ),
-        b'K' => made(c, with_predictor(s), full),
+        b'K' => made(rt, c, with_predictor(s), full),
         b'O' => made(
+            rt,
             c,
             InputVolumeController::classroom(text::number(s, 0), config(s)),
             full,
         ),
-        b'A' => framed(c, false, s, 1, full),
-        b'B' => framed(c, false, s, 2, full),
-        b'W' => framed(c, true, s, 2, full),
-        b'V' => framed_each(c, s, full),
-        b'R' => recommended(c, text::float(s, 0), speech_level(s), full),
-        b'I' => accepted(c.initialize(), full),
+        b'A' => framed(rt, c, false, s, 1, full),
+        b'B' => framed(rt, c, false, s, 2, full),
+        b'W' => framed(rt, c, true, s, 2, full),
+        b'V' => framed_each(rt, c, s, full),
+        b'R' => recommended(rt, c, text::float(s, 0), speech_level(s), full),
+        b'I' => accepted(rt, c.initialize(), full),
         b'C' => accepted(
+            rt,
             c.handle_capture_output_used_change(text::number(s, 0) == 1),
             full,
         ),
-        b'D' => dumped(c, full),
+        b'D' => dumped(rt, c, full),
         _ => c,
     }
 }

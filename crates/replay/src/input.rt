@@ -1,7 +1,7 @@
 // The lines of standard input, one after another, by way of a space that has room for the longest.
 ghost use Rattle.std.specs.Prelude.{◌≤◌, ◌<◌, length};
 
-use libc::STDIN_FILENO;
+use command_line::input::read_full;
 
 // The place of a line in the space, without its line feed, and how many bytes there are read. Not whole: the input has ended before the line has.
 #[derive(Clone, Copy)]
@@ -64,11 +64,11 @@ fn moved(space: &mut [u8], at: usize, held: usize) -> usize
 }
 
 // Reads on behind the bytes that are left of an unfinished line, which then starts the space.
-fn read_on(space: &mut [u8], left: usize) -> Line
+fn read_on<R: Input>(rt: &R, space: &mut [u8], left: usize) -> Line
     requires { left ≤ length space.old }
     ensures { (result.start ≤ result.end) × (result.end ≤ result.held) × (result.held ≤ length space.new) }
 {
-    let n = io::read_full(STDIN_FILENO, &mut space[left..]);
+    let n = read_full(rt, &mut space[left..]);
     let held = left + n;
     let end = line_end(space, 0, held);
     Line {
@@ -80,7 +80,7 @@ fn read_on(space: &mut [u8], left: usize) -> Line
 }
 
 // The line after one.
-pub fn next(space: &mut [u8], line: Line) -> Line
+pub fn next<R: Input>(rt: &R, space: &mut [u8], line: Line) -> Line
     requires { line.held ≤ length space.old }
     ensures { (result.start ≤ result.end) × (result.end ≤ result.held) × (result.held ≤ length space.new) }
 {
@@ -96,5 +96,5 @@ pub fn next(space: &mut [u8], line: Line) -> Line
         };
     }
     let left = moved(space, start, held);
-    read_on(space, left)
+    read_on(rt, space, left)
 }

@@ -34,7 +34,7 @@ mod text;
 mod values;
 
 // A loop must be shown to end: no input has so many lines.
-fn main() {
+fn main(rt: HostRuntime) {
     let mut space = [0u8; 262144];
     let mut ring = ring::fresh();
     let mut predictor = predictor::fresh();
@@ -42,19 +42,19 @@ fn main() {
     let mut full = false;
     let mut line = input::start();
     for turn in 0..u64::MAX {
-        line = input::next(&mut space, line);
+        line = input::next(&rt, &mut space, line);
         if !line.whole {
             break;
         }
         let start = line.start;
         let end = line.end;
         let s = &space[start..end];
-        let letter = print::asked(s);
+        let letter = print::asked(&rt, s);
         full = numbers::truth::either(full, values::asks_state(letter, s));
-        values::answer(letter, s);
-        ring = ring::answer(letter, ring, s);
-        predictor = predictor::answer(letter, predictor, s);
-        controller = controller::answer(letter, controller, s, full);
-        print::line_feed();
+        values::answer(&rt, letter, s);
+        ring = ring::answer(&rt, letter, ring, s);
+        predictor = predictor::answer(&rt, letter, predictor, s);
+        controller = controller::answer(&rt, letter, controller, s, full);
+        print::line_feed(&rt);
     }
 }

@@ -44,31 +44,36 @@ pub fn config(s: &[u8], enabled: bool, first: u8) -> ClippingPredictorConfig {
     }
 }
 
-fn print_made(enabled: bool) {
+fn print_made<R: Print>(rt: &R, enabled: bool) {
     if enabled {
-        print::ok();
+        print::ok(rt);
     } else {
-        print::text(b"off");
+        print::text(rt, b"off");
     }
 }
 
 // A refused making leaves the predictor that was there.
-fn made(old: ClippingPredictor, channels: i32, config: ClippingPredictorConfig) -> ClippingPredictor
+fn made<R: Print>(
+    rt: &R,
+    old: ClippingPredictor,
+    channels: i32,
+    config: ClippingPredictorConfig,
+) -> ClippingPredictor
     requires { Good old }
     ensures { Good result }
 {
     let created = clipping_predictor::create_clipping_predictor(channels, config);
     let answer = created.answer;
-    if !print::accepted(answer) {
+    if !print::accepted(rt, answer) {
         return old;
     }
     let predictor = created.predictor;
-    print_made(predictor.settings.enabled);
+    print_made(rt, predictor.settings.enabled);
     predictor
 }
 
 // A refused frame changes nothing. Of an accepted one the rings are shown that it entered.
-fn analyzed(predictor: ClippingPredictor, s: &[u8]) -> ClippingPredictor
+fn analyzed<R: Print>(rt: &R, predictor: ClippingPredictor, s: &[u8]) -> ClippingPredictor
     requires { Good predictor }
     ensures { Good result }
 {
@@ -78,49 +83,58 @@ fn analyzed(predictor: ClippingPredictor, s: &[u8]) -> ClippingPredictor
     let done = predictor.analyze(samples, &space[..n]);
     let next = done.predictor;
     let answer = done.answer;
-    if print::accepted(answer) {
-        print::ok();
-        state::print_rings(next, b" ", false, b"");
+    if print::accepted(rt, answer) {
+        print::ok(rt);
+        state::print_rings(rt, next, b" ", false, b"");
     }
     next
 }
 
-fn emptied(predictor: ClippingPredictor) -> ClippingPredictor
+fn emptied<R: Print>(rt: &R, predictor: ClippingPredictor) -> ClippingPredictor
     requires { Good predictor }
     ensures { Good result }
 {
-    print::ok();
+    print::ok(rt);
     predictor.reset()
 }
 
-fn estimated(predictor: ClippingPredictor, s: &[u8]) -> ClippingPredictor
+fn estimated<R: Print>(rt: &R, predictor: ClippingPredictor, s: &[u8]) -> ClippingPredictor
     requires { Good predictor }
     ensures { Good result }
 {
-    print::estimate(predictor.estimate_clipped_level_step(
-        text::number(s, 0),
-        text::number(s, 1),
-        text::number(s, 2),
-        text::number(s, 3),
-        text::number(s, 4),
-    ));
+    print::estimate(
+        rt,
+        predictor.estimate_clipped_level_step(
+            text::number(s, 0),
+            text::number(s, 1),
+            text::number(s, 2),
+            text::number(s, 3),
+            text::number(s, 4),
+        ),
+    );
     predictor
 }
 
 // The answer to a line, by its first letter.
-pub fn answer(letter: u8, predictor: ClippingPredictor, s: &[u8]) -> ClippingPredictor
+pub fn answer<R: Print>(
+    rt: &R,
+    letter: u8,
+    predictor: ClippingPredictor,
+    s: &[u8],
+) -> ClippingPredictor
     requires { Good predictor }
     ensures { Good result }
 {
     match letter {
         b'P' => made(
+            rt,
             predictor,
             text::number(s, 0),
             config(s, text::number(s, 1) == 1, 2),
         ),
-        b'F' => analyzed(predictor, s),
-        b'X' => emptied(predictor),
-        b'E' => estimated(predictor, s),
+        b'F' => analyzed(rt, predictor, s),
+        b'X' => emptied(rt, predictor),
+        b'E' => estimated(rt, predictor, s),
         _ => predictor,
     }
 }

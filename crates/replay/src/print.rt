@@ -1,130 +1,130 @@
-// Writing answers to standard output.
+// Writing answers to standard output. Where that fails there is nobody to tell.
 use clipping_predictor::Estimate;
 use clipping_predictor_level_buffer::Metrics;
 use clipping_predictor_level_buffer::level::Level;
 use input_volume_controller::{Analysis, Recommendation};
 use levels::decibels::Decibels;
-use libc::STDOUT_FILENO;
 use numbers::refusal::{Outcome, Refusal};
 
-pub fn text(s: &[u8]) {
-    io::write_all(STDOUT_FILENO, s);
+pub fn text<R: Print>(rt: &R, s: &[u8]) {
+    let _ = rt.write_all(s);
 }
 
 // What a line asks, and its letter.
-pub fn asked(line: &[u8]) -> u8 {
-    text(line);
-    text(b" => ");
+pub fn asked<R: Print>(rt: &R, line: &[u8]) -> u8 {
+    text(rt, line);
+    text(rt, b" => ");
     crate::text::letter(line)
 }
 
-pub fn line_feed() {
-    text(b"\n");
+pub fn line_feed<R: Print>(rt: &R) {
+    text(rt, b"\n");
 }
 
-pub fn count(n: u64) {
-    io::print_decimal(STDOUT_FILENO, n);
+pub fn count<R: Print>(rt: &R, n: u64) {
+    let _ = print!(rt; "{n}");
 }
 
-pub fn number(x: i32) {
+pub fn number<R: Print>(rt: &R, x: i32) {
     if x < 0 {
-        text(b"-");
+        text(rt, b"-");
     }
-    count(numbers::sign::size(x) as u64);
+    count(rt, numbers::sign::size(x) as u64);
 }
 
-pub fn none() {
-    text(b"none");
+pub fn none<R: Print>(rt: &R) {
+    text(rt, b"none");
 }
 
-pub fn ok() {
-    text(b"ok");
+pub fn ok<R: Print>(rt: &R) {
+    text(rt, b"ok");
 }
 
-pub fn refusal(cause: Refusal) {
-    text(b"! ");
-    count(numbers::refusal::number(cause) as u64);
+pub fn refusal<R: Print>(rt: &R, cause: Refusal) {
+    text(rt, b"! ");
+    count(rt, numbers::refusal::number(cause) as u64);
 }
 
-pub fn float(x: f32) {
-    io::print_hex(STDOUT_FILENO, levels::bits::to_bits(x) as u64, 8);
+pub fn float<R: Print>(rt: &R, x: f32) {
+    let bits = levels::bits::to_bits(x);
+    let _ = print!(rt; "{bits:08x}");
 }
 
-pub fn decibels(d: Decibels) {
+pub fn decibels<R: Print>(rt: &R, d: Decibels) {
     match d {
-        Decibels::Finite(x) => number(x),
-        Decibels::PlusInfinity => text(b"inf"),
-        Decibels::MinusInfinity => text(b"-inf"),
-        Decibels::NotANumber => text(b"nan"),
+        Decibels::Finite(x) => number(rt, x),
+        Decibels::PlusInfinity => text(rt, b"inf"),
+        Decibels::MinusInfinity => text(rt, b"-inf"),
+        Decibels::NotANumber => text(rt, b"nan"),
     }
 }
 
 // A refusal is written; whether there is more to say.
-pub fn accepted(answer: Outcome) -> bool {
+pub fn accepted<R: Print>(rt: &R, answer: Outcome) -> bool {
     match answer {
         Outcome::Refused(cause) => {
-            refusal(cause);
+            refusal(rt, cause);
             false
         }
         Outcome::Accepted => true,
     }
 }
 
-fn triple(level: Level) {
-    float(level.average);
-    text(b" ");
-    float(level.max);
-    text(b" ");
-    count(level.clipped as u64);
+fn triple<R: Print>(rt: &R, level: Level) {
+    float(rt, level.average);
+    text(rt, b" ");
+    float(rt, level.max);
+    text(rt, b" ");
+    count(rt, level.clipped as u64);
 }
 
-pub fn metrics(metrics: Metrics) {
+pub fn metrics<R: Print>(rt: &R, metrics: Metrics) {
     match metrics {
-        Metrics::Refused(cause) => refusal(cause),
-        Metrics::Missing => none(),
-        Metrics::Found(level) => triple(level),
+        Metrics::Refused(cause) => refusal(rt, cause),
+        Metrics::Missing => none(rt),
+        Metrics::Found(level) => triple(rt, level),
     }
 }
 
 // A mark stands behind the answer.
-fn near(near: bool) {
+fn near<R: Print>(rt: &R, near: bool) {
     if near {
-        text(b" n");
+        text(rt, b" n");
     }
 }
 
-pub fn estimate(estimate: Estimate) {
+pub fn estimate<R: Print>(rt: &R, estimate: Estimate) {
     match estimate {
-        Estimate::Refused(cause) => refusal(cause),
+        Estimate::Refused(cause) => refusal(rt, cause),
         Estimate::Nothing(marked) => {
-            none();
-            near(marked);
+            none(rt);
+            near(rt, marked);
         }
         Estimate::Drop(drop, marked) => {
-            number(drop);
-            near(marked);
+            number(rt, drop);
+            near(rt, marked);
         }
     }
 }
 
-pub fn analysis(answer: Analysis) {
+pub fn analysis<R: Print>(rt: &R, answer: Analysis) {
     match answer {
-        Analysis::Refused(cause) => refusal(cause),
-        Analysis::Accepted(_) => ok(),
+        Analysis::Refused(cause) => refusal(rt, cause),
+        Analysis::Accepted(_) => ok(rt),
     }
 }
 
 // The mark of a frame.
-pub fn mark(answer: Analysis) {
+pub fn mark<R: Print>(rt: &R, answer: Analysis) {
     match answer {
-        Analysis::Refused(_) => near(false),
-        Analysis::Accepted(marked) => near(marked),
+        Analysis::Refused(_) => near(rt, false),
+        Analysis::Accepted(marked) => near(rt, marked),
     }
 }
 
-pub fn recommendation(answer: Recommendation) {
+pub fn recommendation<R: Print>(rt: &R, answer: Recommendation) {
     match answer {
-        Recommendation::Nothing => none(),
-        Recommendation::Volume(v) => number(v),
+        Recommendation::Nothing => none(rt),
+        Recommendation::Volume(v) => number(rt, v),
     }
 }

@@ -13,30 +13,35 @@ pub fn fresh() -> ClippingPredictorLevelBuffer
 }
 
 // A refused making leaves the ring that was there.
-fn made(old: ClippingPredictorLevelBuffer, capacity: i32) -> ClippingPredictorLevelBuffer
+fn made<R: Print>(
+    rt: &R,
+    old: ClippingPredictorLevelBuffer,
+    capacity: i32,
+) -> ClippingPredictorLevelBuffer
     requires { Good old }
     ensures { Good result }
 {
     let made = ClippingPredictorLevelBuffer::new(capacity);
     let answer = made.answer;
-    if !print::accepted(answer) {
+    if !print::accepted(rt, answer) {
         return old;
     }
     let ring = made.ring;
-    print::number(ring.capacity());
+    print::number(rt, ring.capacity());
     ring
 }
 
 // How many records there are then.
-fn counted(ring: ClippingPredictorLevelBuffer) -> ClippingPredictorLevelBuffer
+fn counted<R: Print>(rt: &R, ring: ClippingPredictorLevelBuffer) -> ClippingPredictorLevelBuffer
     requires { Good ring }
     ensures { Good result }
 {
-    print::number(ring.size());
+    print::number(rt, ring.size());
     ring
 }
 
-fn measured(
+fn measured<R: Print>(
+    rt: &R,
     ring: ClippingPredictorLevelBuffer,
     delay: i32,
     items: i32,
@@ -44,26 +49,31 @@ fn measured(
     requires { Good ring }
     ensures { Good result }
 {
-    print::metrics(ring.compute_partial_metrics(delay, items));
+    print::metrics(rt, ring.compute_partial_metrics(delay, items));
     ring
 }
 
 // A refused push leaves the ring.
-fn pushed(ring: ClippingPredictorLevelBuffer, s: &[u8]) -> ClippingPredictorLevelBuffer
+fn pushed<R: Print>(
+    rt: &R,
+    ring: ClippingPredictorLevelBuffer,
+    s: &[u8],
+) -> ClippingPredictorLevelBuffer
     requires { Good ring }
     ensures { Good result }
 {
     let after = ring.push(text::float(s, 0), text::float(s, 1), text::number(s, 2));
     let answer = after.answer;
     let next = after.ring;
-    if !print::accepted(answer) {
+    if !print::accepted(rt, answer) {
         return next;
     }
-    counted(next)
+    counted(rt, next)
 }
 
 // The answer to a line, by its first letter.
-pub fn answer(
+pub fn answer<R: Print>(
+    rt: &R,
     letter: u8,
     ring: ClippingPredictorLevelBuffer,
     s: &[u8],
@@ -72,10 +82,10 @@ pub fn answer(
     ensures { Good result }
 {
     match letter {
-        b'G' => made(ring, text::number(s, 0)),
-        b'g' => pushed(ring, s),
-        b'z' => counted(ring.reset()),
-        b'm' => measured(ring, text::number(s, 0), text::number(s, 1)),
+        b'G' => made(rt, ring, text::number(s, 0)),
+        b'g' => pushed(rt, ring, s),
+        b'z' => counted(rt, ring.reset()),
+        b'm' => measured(rt, ring, text::number(s, 0), text::number(s, 1)),
         _ => ring,
     }
 }
