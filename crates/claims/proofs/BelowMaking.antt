@@ -14,7 +14,6 @@ use Rattle.numbers.specs.Said.{refused, refusal_in, outcome_says}
 use Rattle.clipping_predictor.specs.declared.settings.ClippingPredictorConfig.{ClippingPredictorConfig}
 use Rattle.clipping_predictor.specs.declared.settings.Settings.{Settings}
 use Rattle.clipping_predictor.specs.declared.settings.Checked.{Checked}
-use Rattle.clipping_predictor.specs.declared.settings.Checked.TheVariants as Checked
 use Rattle.clipping_predictor.specs.Settings.{max_level, levels_in_range, checked_says, checked_if, checked, settings_of}
 use Rattle.clipping_predictor.specs.Predictor.{max_channels, unmade_settings, empty_predictor, made_of, making_of}
 use Rattle.claims.specs.Causes.{Cause, first_if, first_of, outside, windows_out, sum_out, levels_out, predictor_faults}

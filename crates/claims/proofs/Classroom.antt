@@ -7,7 +7,7 @@ use Prim.Native.Nat.{ℕ, ◌≤◌, ◌<◌, min}
 use native.Mathlib.Omega.{arith}
 use lib.Dec.{T, leb, eqb, le→leb}
 use lib.IntN.{ℤ, pos}
-use lib.Signed.{◌≤ℤ◌, le_z_yes}
+use lib.Signed.{le_z_yes}
 use lib.Ieee.{Float}
 use lib.ListN.{length, get_or, replicate, get_or-replicate, get_or-map}
 use Rattle.numbers.specs.declared.refusal.Outcome.TheVariants.{Accepted}

@@ -40,7 +40,6 @@ use Rattle.input_volume_controller.specs.ControlCalls.{with_applied_input_volume
 use Rattle.input_volume_controller.specs.Controller.{predictor_settings, base_predictor}
 use Rattle.input_volume_controller.proofs.Built.{base_checked}
 use Rattle.input_volume_controller.specs.Reply.{Reply}
-use Rattle.input_volume_controller.specs.Reply as Reply
 use Rattle.input_volume_controller.specs.Frame.{analyze_input_audio}
 use Rattle.input_volume_controller.specs.Recommendation.{recommend_input_volume}
 use Rattle.input_volume_controller.specs.Calls.{Call, frame, recommendation, initialise, capture_switch, after, answers}

@@ -19,7 +19,6 @@ use Rattle.mono_input_volume_controller.specs.declared.config.Config.{Config}
 use Rattle.mono_input_volume_controller.specs.declared.profile.Profile.{Profile}
 use Rattle.mono_input_volume_controller.specs.declared.config.Settings.{Settings}
 use Rattle.mono_input_volume_controller.specs.declared.config.Checked.{Checked}
-use Rattle.mono_input_volume_controller.specs.declared.config.Checked.TheVariants as Checked
 use Rattle.mono_input_volume_controller.specs.Config.{defaults, settings_from, settings_of}
 use Rattle.mono_input_volume_controller.specs.Config as Configs
 use Rattle.mono_input_volume_controller.proofs.Checked.{defaults_in_order, good_settings, checked_good}

@@ -18,7 +18,6 @@ use Rattle.input_volume_controller.specs.ControlCalls.{aggregated, with_applied_
 use Rattle.input_volume_controller.specs.Controller.{Controller}
 use Rattle.clipping_predictor.specs.AllRings.{predicted_by}
 use Rattle.input_volume_controller.specs.Frame.{asked_of, handle_if, unless_waiting}
-use Rattle.input_volume_controller.specs.Calls.{step}
 use Rattle.claims.specs.LeadIn.{is_low}
 use Rattle.claims.proofs.Rings.{Match, match_empty}
 use Rattle.claims.proofs.Silent.{none_predicted}

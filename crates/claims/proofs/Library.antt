@@ -5,7 +5,6 @@ use native.Mathlib.Omega.{arith}
 use lib.IntN.{ℤ}
 use Rattle.numbers.specs.declared.refusal.Refusal.{Refusal}
 use Rattle.numbers.specs.declared.refusal.Outcome.{Outcome}
-use Rattle.numbers.specs.declared.refusal.Outcome.TheVariants as Outcome
 use Rattle.numbers.specs.Said.{outcome_says}
 use Rattle.numbers.proofs.Said.{numbered}
 use Rattle.clipping_predictor.specs.declared.settings.ClippingPredictorConfig.{ClippingPredictorConfig}

@@ -20,7 +20,6 @@ use Rattle.clipping_predictor.specs.Predictor.{max_channels}
 use Rattle.clipping_predictor.proofs.Rings as PredictorRings
 use Rattle.mono_input_volume_controller.specs.declared.config.Config.{Config}
 use Rattle.mono_input_volume_controller.specs.declared.config.Settings.{Settings}
-use Rattle.mono_input_volume_controller.specs.declared.config.Checked.{Checked}
 use Rattle.mono_input_volume_controller.specs.declared.config.Checked.TheVariants.{InOrder}
 use Rattle.mono_input_volume_controller.specs.MonoState.{max_input_volume, max_wait}
 use Rattle.mono_input_volume_controller.specs.Config.{in_range, both_in_range, volumes_in_range, step_in_range, waits_in_range, targets_in_range, thresholds_in_range, settings_from, checked_if, settings_of}

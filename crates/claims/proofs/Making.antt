@@ -24,7 +24,6 @@ use Rattle.mono_input_volume_controller.specs.declared.profile.Profile.{Profile}
 use Rattle.mono_input_volume_controller.specs.declared.profile.Profile.TheVariants.{Plain, Classroom}
 use Rattle.mono_input_volume_controller.specs.declared.config.Settings.{Settings}
 use Rattle.mono_input_volume_controller.specs.declared.config.Checked.{Checked}
-use Rattle.mono_input_volume_controller.specs.declared.config.Checked.TheVariants as Checked
 use Rattle.mono_input_volume_controller.specs.MonoState.{max_input_volume, max_wait}
 use Rattle.mono_input_volume_controller.specs.SpeechLevel.{lowest_db, highest_db}
 use Rattle.mono_input_volume_controller.specs.Config.{defaults, in_range, in_unit, volumes_in_range, step_in_range, waits_in_range, targets_in_range, thresholds_in_range, settings_from, checked_if, settings_of}

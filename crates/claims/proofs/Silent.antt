@@ -8,7 +8,7 @@ use native.Mathlib.Decide.{dec_le}
 use lib.Dec.{T, leb, leb→le, le→leb}
 use lib.IntN.{ℤ, pos, negsuc, sub_ℕ}
 use lib.Signed.{le_z}
-use lib.ListN.{length, take, drop, length-take}
+use lib.ListN.{length, take, length-take}
 use lib.Seq.{take-take}
 use lib.Ieee.{Float, nan, inf, fin, lt, up, down}
 use borrow.Author.Tests.{lt-ltb, le-ltb}
