@@ -9,7 +9,9 @@ use Rattle.frame_lines.specs.declared.answer.Reply.TheVariants.{Volume, Refused}
 use Rattle.frame_lines.specs.Digits.{is_digit, digit, are_digits, number_after}
 use Rattle.frame_lines.specs.Samples.{signed16, are_samples, samples_in}
 use Rattle.frame_lines.specs.Line.{head_is_good, is_framed, is_well_formed, fields_of, meaning}
-use Rattle.frame_lines.specs.Answer.{digit_character, decimal, volume_text, number_text, answer_of}
+use Rattle.frame_lines.specs.Answer.{digit_character, digits_of, decimal, volume_text, number_text, answer_of}
+use Rattle.frame_lines.specs.Forgiven.{lowered, fields_in, spaced, forgiven, lenient_meaning}
+use Rattle.frame_lines.specs.Spelling.{samples_text, level_text, spelling}
 use Rattle.frame_lines.specs.Lines.{lines_of}
 
 -- c8 00000000 - 7fff800000010000
@@ -62,10 +64,52 @@ gap : meaning (99 ∷ 56 ∷ 32 ∷ 48 ∷ 48 ∷ 48 ∷ 48 ∷ 48 ∷ 48 ∷ 48
 unfolding meaning is_well_formed is_framed head_is_good fields_of are_samples samples_in signed16 are_digits number_after is_digit digit
 gap = refl
 
+-- ---- the lenient reader
+
+-- two blanks, capitals, and blanks at the ends: ` C8  00000000 - 7FFF `
+typed : lenient_meaning (32 ∷ 67 ∷ 56 ∷ 32 ∷ 32 ∷ 48 ∷ 48 ∷ 48 ∷ 48 ∷ 48 ∷ 48 ∷ 48 ∷ 48 ∷ 32 ∷ 45 ∷ 32 ∷ 55 ∷ 70 ∷ 70 ∷ 70 ∷ 32 ∷ []) ≡ some (record { volume = 200; probability = 0; level = none; samples = pos 32767 ∷ [] })
+unfolding lenient_meaning forgiven fields_in spaced lowered meaning is_well_formed is_framed head_is_good fields_of are_samples samples_in signed16 are_digits number_after is_digit digit
+typed = refl
+
+-- `c8 00000000 -`
+three_fields : lenient_meaning (99 ∷ 56 ∷ 32 ∷ 48 ∷ 48 ∷ 48 ∷ 48 ∷ 48 ∷ 48 ∷ 48 ∷ 48 ∷ 32 ∷ 45 ∷ []) ≡ some (record { volume = 200; probability = 0; level = none; samples = [] })
+unfolding lenient_meaning forgiven fields_in spaced lowered meaning is_well_formed is_framed head_is_good fields_of are_samples samples_in signed16 are_digits number_after is_digit digit
+three_fields = refl
+
+-- the bits of a not-a-number: `c8 7FC00001 ff800001`
+nan_bits : lenient_meaning (99 ∷ 56 ∷ 32 ∷ 55 ∷ 70 ∷ 67 ∷ 48 ∷ 48 ∷ 48 ∷ 48 ∷ 49 ∷ 32 ∷ 102 ∷ 102 ∷ 56 ∷ 48 ∷ 48 ∷ 48 ∷ 48 ∷ 49 ∷ []) ≡ some (record { volume = 200; probability = 2143289345; level = some 4286578689; samples = [] })
+unfolding lenient_meaning forgiven fields_in spaced lowered meaning is_well_formed is_framed head_is_good fields_of are_samples samples_in signed16 are_digits number_after is_digit digit
+nan_bits = refl
+
+-- `c8 00000000 - 0000 0000`
+five_fields : lenient_meaning (99 ∷ 56 ∷ 32 ∷ 48 ∷ 48 ∷ 48 ∷ 48 ∷ 48 ∷ 48 ∷ 48 ∷ 48 ∷ 32 ∷ 45 ∷ 32 ∷ 48 ∷ 48 ∷ 48 ∷ 48 ∷ 32 ∷ 48 ∷ 48 ∷ 48 ∷ 48 ∷ []) ≡ none
+unfolding lenient_meaning forgiven fields_in spaced lowered meaning is_well_formed is_framed head_is_good fields_of are_samples samples_in signed16 are_digits number_after is_digit digit
+five_fields = refl
+
+-- a tab is no blank
+tabbed : lenient_meaning (99 ∷ 56 ∷ 9 ∷ 48 ∷ 48 ∷ 48 ∷ 48 ∷ 48 ∷ 48 ∷ 48 ∷ 48 ∷ 32 ∷ 45 ∷ 32 ∷ 48 ∷ 48 ∷ 48 ∷ 48 ∷ []) ≡ none
+unfolding lenient_meaning forgiven fields_in spaced lowered meaning is_well_formed is_framed head_is_good fields_of are_samples samples_in signed16 are_digits number_after is_digit digit
+tabbed = refl
+
+-- `G` is no digit
+no_digit : lenient_meaning (99 ∷ 56 ∷ 32 ∷ 48 ∷ 48 ∷ 48 ∷ 48 ∷ 48 ∷ 48 ∷ 48 ∷ 48 ∷ 32 ∷ 45 ∷ 32 ∷ 48 ∷ 48 ∷ 48 ∷ 71 ∷ []) ≡ none
+unfolding lenient_meaning forgiven fields_in spaced lowered meaning is_well_formed is_framed head_is_good fields_of are_samples samples_in signed16 are_digits number_after is_digit digit
+no_digit = refl
+
+-- and the writer: `c8 7fc00001 - 8000`
+spelled : spelling (record { volume = 200; probability = 2143289345; level = none; samples = negsuc 32767 ∷ [] }) ≡ 99 ∷ 56 ∷ 32 ∷ 55 ∷ 102 ∷ 99 ∷ 48 ∷ 48 ∷ 48 ∷ 48 ∷ 49 ∷ 32 ∷ 45 ∷ 32 ∷ 56 ∷ 48 ∷ 48 ∷ 48 ∷ []
+unfolding spelling spaced level_text samples_text digits_of digit_character
+spelled = refl
+
+-- nothing behind the last blank: `c8 00000000 - `
+spelled_empty : spelling (record { volume = 200; probability = 0; level = none; samples = [] }) ≡ 99 ∷ 56 ∷ 32 ∷ 48 ∷ 48 ∷ 48 ∷ 48 ∷ 48 ∷ 48 ∷ 48 ∷ 48 ∷ 32 ∷ 45 ∷ 32 ∷ []
+unfolding spelling spaced level_text samples_text digits_of digit_character
+spelled_empty = refl
+
 -- ---- answers
 
 marked_volume : answer_of (Volume 185 true) ≡ 98 ∷ 57 ∷ 32 ∷ 110 ∷ 10 ∷ []
-unfolding answer_of volume_text digit_character
+unfolding answer_of volume_text digits_of digit_character
 marked_volume = refl
 
 refused_frame : answer_of (Refused FrameSize) ≡ 33 ∷ 32 ∷ 57 ∷ 10 ∷ []

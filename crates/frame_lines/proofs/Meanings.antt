@@ -29,12 +29,15 @@ too_long : (line : List ℕ) → most_characters < length line → meaning line 
 unfolding meaning is_well_formed is_framed
 too_long line h = simp (lt-leb _ _ h)
 
--- a line that is cut is too long, and so is what is kept of it
-pub cut_alike : (line : List ℕ) → meaning (cut line) ≡ meaning line
-cut_alike line = elim (dec_le (length line) most_characters) [
-  | yes h ↦ ap meaning (take_all kept_characters line (omega arith))
-  | no h ↦ too_long (cut line) (omega (arith, length-take kept_characters line)) ∙ sym (too_long line (omega arith))
+-- a line that is cut is too long, and so is what is kept of it: whoever makes one thing of all that are too long makes the same of both
+pub alike_cut : {A : Type 0} (f : List ℕ → A) (x : A) → ((line : List ℕ) → most_characters < length line → f line ≡ x) → (line : List ℕ) → f (cut line) ≡ f line
+alike_cut f x long line = elim (dec_le (length line) most_characters) [
+  | yes h ↦ ap f (take_all kept_characters line (omega arith))
+  | no h ↦ long (cut line) (omega (arith, length-take kept_characters line)) ∙ sym (long line (omega arith))
 ]
+
+pub cut_alike : (line : List ℕ) → meaning (cut line) ≡ meaning line
+cut_alike line = alike_cut meaning none too_long line
 
 -- ---- the samples
 

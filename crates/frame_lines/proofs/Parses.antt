@@ -32,6 +32,17 @@ module _ (line : List ℕ) (before : List Float) where
   unfolding is_framed
   headless e = unframed (simp (e, and_false))
 
+-- ---- whether a line is well formed
+
+module _ (line : List ℕ) where
+  pub long_malformed : 2000 < length line → is_well_formed line ≡ false
+  unfolding is_well_formed is_framed
+  long_malformed h = simp (lt-leb _ _ h)
+
+  pub headless_malformed : head_is_good line ≡ false → is_well_formed line ≡ false
+  unfolding is_well_formed is_framed
+  headless_malformed e = simp (e, and_false)
+
 -- ---- the samples lie within the line
 
 start_within : (line : List ℕ) (t : Bool) → level_is_good t line ≡ true → samples_start t ≤ length line
@@ -45,6 +56,15 @@ level_good line e = (both ((are_digits (part line 0 2) && is_blank line 2) && (a
 module _ (line : List ℕ) (v : ℕ) (p : Float) (l : SpeechLevel) (s : ℕ) (f : Headed line v p l s) where
   pub starts_within : s ≤ length line
   starts_within = omega (arith, start_within line (is_dashed line) (level_good line f.good), f.start_is)
+
+  -- the samples tell whether a line that is short enough is well formed
+  pub samples_tell : length line ≤ 2000 → is_well_formed line ≡ are_samples (drop s line)
+  unfolding is_well_formed is_framed
+  samples_tell h =
+      let short = le-leb _ _ h in
+      let good = f.good in
+      let start = f.start_is in
+      simp (short, good, start)
 
   -- ---- the two ends
 

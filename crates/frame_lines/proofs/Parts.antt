@@ -43,7 +43,7 @@ and_assoc : (t u v : Bool) {w : Bool} → w ≡ u && v → (t && w) ≡ ((t && u
 and_assoc true u v e = e
 and_assoc false u v e = refl
 
-digits_append : (xs ys : List ℕ) → are_digits (xs ++ ys) ≡ are_digits xs && are_digits ys
+pub digits_append : (xs ys : List ℕ) → are_digits (xs ++ ys) ≡ are_digits xs && are_digits ys
 unfolding are_digits
 digits_append [] ys = refl
 digits_append (x ∷ xs) ys = and_assoc (is_digit x) (are_digits xs) (are_digits ys) (digits_append xs ys)

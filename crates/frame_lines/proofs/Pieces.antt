@@ -173,6 +173,13 @@ module _ (k piece : List ℕ) (e : ended k ≡ []) where
       ∙ begun_cut k (ended piece) (begun piece)
       ∙ ap cut (sym (begun_after_lem k piece e))
 
+-- a text in two parts, where what the first has begun is kept
+pub kept_two : (k x y : List ℕ) → cut (begun (k ++ (x ++ y))) ≡ cut (begun (cut (begun (k ++ x)) ++ y))
+kept_two k x y =
+    ap (λ (l : List ℕ). cut (begun l)) (sym (append_assoc k x y))
+    ∙ ap cut (begun_two (k ++ x) y)
+    ∙ sym (begins_cut (begun (k ++ x)) y (ended_begun (k ++ x)))
+
 kept_lines : (k : List ℕ) → ended k ≡ [] → (pieces : List (List ℕ)) → map cut (handed_on (cut k) pieces) ≡ map cut (lines_of (k ++ flatten pieces))
 unfolding handed_on flatten
 kept_lines k e [] =

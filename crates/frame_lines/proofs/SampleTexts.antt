@@ -2,18 +2,20 @@
 use mathlib.Core.Path.{◌≡◌, refl, sym, ap, ◌∙◌}
 use mathlib.Core.Bool.{Bool, true, false, ◌&&◌}
 use mathlib.Core.List.{List, [], ◌∷◌, ◌++◌, map, append_assoc, append-nil, map-append}
-use Prim.Native.Nat.{ℕ, suc, ◌+◌, ◌*◌, ◌/◌, ◌≤◌, ◌<◌}
+use Prim.Native.Nat.{ℕ, suc, ◌+◌, ◌*◌, ◌/◌, ◌%◌, ◌≤◌, ◌<◌}
 use native.Mathlib.Omega.{arith}
 use lib.Ieee.{Float}
 use lib.IntN.{ℤ}
 use lib.ListN.{length, take, drop, set, length-append, length-map, length-drop}
 use lib.Seq.{drop-drop}
+use Rattle.numbers.proofs.Signs.{clash}
 use Rattle.frame_lines.specs.Digits.{are_digits, number}
 use Rattle.frame_lines.specs.Samples.{four, signed16, are_samples, sample_if, samples_in}
 use Rattle.frame_lines.specs.Line.{part}
 use Rattle.frame_lines.specs.Parsed.{sample_of, over}
 use Rattle.frame_lines.specs.Reading.{ReadAs}
-use Rattle.frame_lines.proofs.Tests.{false_unless, true_unless}
+use Rattle.frame_lines.proofs.Tests.{both, false_unless, true_unless}
+use Rattle.frame_lines.proofs.Parts.{digits_append}
 
 -- ---- the text by fours
 
@@ -60,7 +62,41 @@ less (a ∷ b ∷ []) e = omega arith
 less (a ∷ b ∷ c ∷ []) e = omega arith
 less (a ∷ b ∷ c ∷ d ∷ t) e = less_if (are_digits (four a b c d)) (number (four a b c d)) (samples_in t) (length t) (are_samples t) (less t) e
 
--- so the number of samples tells
+-- such a text has digits alone, in a number that goes by fours
+digits_if : (a b c d : ℕ) (t : List ℕ) → (are_samples t ≡ true → are_digits t ≡ true) → (are_digits (four a b c d) && are_samples t) ≡ true → are_digits (a ∷ b ∷ c ∷ d ∷ t) ≡ true
+digits_if a b c d t f e = let p = both (are_digits (four a b c d)) (are_samples t) e in digits_append (four a b c d) t ∙ (λ i. p.first i && f p.second i)
+
+pub all_digits : (t : List ℕ) → are_samples t ≡ true → are_digits t ≡ true
+unfolding are_samples are_digits
+all_digits [] e = refl
+all_digits (a ∷ []) e = let z : ◌≡◌ {A = ℕ} 0 1 = cc in absurd (omega arith)
+all_digits (a ∷ b ∷ []) e = let z : ◌≡◌ {A = ℕ} 0 1 = cc in absurd (omega arith)
+all_digits (a ∷ b ∷ c ∷ []) e = let z : ◌≡◌ {A = ℕ} 0 1 = cc in absurd (omega arith)
+all_digits (a ∷ b ∷ c ∷ d ∷ t) e = digits_if a b c d t (all_digits t) e
+
+by_fours_if : (a b c d : ℕ) (t : List ℕ) → length t % 4 ≡ 0 → are_digits (a ∷ b ∷ c ∷ d ∷ t) ≡ true → (length t % 4 ≡ 0 → are_digits t ≡ true → are_samples t ≡ true) → (are_digits (four a b c d) && are_samples t) ≡ true
+by_fours_if a b c d t h e f = let p = both (are_digits (four a b c d)) (are_digits t) (sym (digits_append (four a b c d) t) ∙ e) in λ i. p.first i && f h p.second i
+
+pub by_fours : (t : List ℕ) → length t % 4 ≡ 0 → are_digits t ≡ true → are_samples t ≡ true
+unfolding are_samples
+by_fours [] h e = refl
+by_fours (a ∷ []) h e = absurd (omega arith)
+by_fours (a ∷ b ∷ []) h e = absurd (omega arith)
+by_fours (a ∷ b ∷ c ∷ []) h e = absurd (omega arith)
+by_fours (a ∷ b ∷ c ∷ d ∷ t) h e = by_fours_if a b c d t (omega arith) e (by_fours t)
+
+-- so digits and their number tell
+pub not_fours : (t : List ℕ) → (length t % 4 ≡ 0 → ⊥) → are_samples t ≡ false
+not_fours t h = false_unless (are_samples t) (λ e. h (omega (arith, whole t e)))
+
+pub fours_tell : (t : List ℕ) → length t % 4 ≡ 0 → are_digits t ≡ are_samples t
+fours_tell t h = fours_tell_if (are_digits t) refl
+  where
+    fours_tell_if : (u : Bool) → are_digits t ≡ u → u ≡ are_samples t
+    fours_tell_if true e = sym (by_fours t h e)
+    fours_tell_if false e = sym (false_unless (are_samples t) (λ s. clash (sym (all_digits t s) ∙ e)))
+
+-- so does the number of samples
 
 pub not_to_end : (t : List ℕ) → length (samples_in t) * 4 < length t → are_samples t ≡ false
 not_to_end t h = false_unless (are_samples t) (λ e. omega (arith, whole t e))

@@ -1,5 +1,5 @@
 -- Document 01, "The frame-line program": "Output per line: volume in 2 digits, blank, `n` if near else `.`; or `!`, blank, the refusal number in decimal." A line feed ends it. Definitions only.
-use Rattle.std.specs.Prelude.{Bool, true, false, List, [], ◌∷◌, ◌++◌, ℕ, ◌+◌, ◌-◌, ◌/◌, ◌%◌, ltb, length, replicate}
+use Rattle.std.specs.Prelude.{◌≡◌, Bool, true, false, List, [], ◌∷◌, ◌++◌, ℕ, zero, suc, ◌+◌, ◌-◌, ◌/◌, ◌%◌, leb, ltb, length, take, drop, replicate}
 use Rattle.numbers.specs.Refusal.{number_of}
 use Rattle.frame_lines.specs.declared.answer.Reply.{Reply}
 use Rattle.frame_lines.specs.declared.answer.Reply.TheVariants.{Volume, Refused}
@@ -16,6 +16,11 @@ digit_character n = digit_character_if (ltb n 10) n
 -- "volume in 2 digits"
 abbrev pub two_digits : ℕ → List ℕ
 two_digits n = digit_character (n / 16) ∷ digit_character (n % 16) ∷ []
+
+-- a number in so many digits, the last counting least
+unfoldable pub digits_of : ℕ → ℕ → List ℕ
+digits_of zero n = []
+digits_of (suc k) n = digits_of k (n / 16) ++ digit_character (n % 16) ∷ []
 
 -- "`n` if near else `.`"
 abbrev pub mark : Bool → ℕ
@@ -49,3 +54,25 @@ answer_of (Refused cause) = number_text (number_of cause)
 -- the text of an answer as a value: its bytes, and zeros behind them
 abbrev pub held : List ℕ → Text
 held text = record { bytes = text ++ replicate (longest - length text) 0; length = length text }
+
+-- a text at the beginning of a slice
+abbrev pub laid : List ℕ → List ℕ → List ℕ
+laid text out = text ++ drop (length text) out
+
+-- ---- an answer that is put from a place on, where there is room for the longest
+
+abbrev pub has_room : ℕ → List ℕ → Bool
+has_room at out = leb (at + longest) (length out)
+
+abbrev pub behind_text : Bool → ℕ → List ℕ → ℕ
+behind_text true at text = at + length text
+behind_text false at text = at
+
+abbrev pub with_text : Bool → ℕ → List ℕ → List ℕ → List ℕ
+with_text true at text out = take at out ++ text ++ drop (at + length text) out
+with_text false at text out = out
+
+-- r is the place behind it, and what a lent slice holds afterwards that held `before`
+pub record PutAs (text : List ℕ) (at : ℕ) (before after : List ℕ) (r : ℕ) : Type 0 where
+  pub behind_is : r ≡ behind_text (has_room at before) at text
+  pub out_is : after ≡ with_text (has_room at before) at text before

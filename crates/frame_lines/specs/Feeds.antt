@@ -5,7 +5,7 @@ use Rattle.frame_lines.specs.declared.lines.Feed.{Feed}
 use Rattle.frame_lines.specs.declared.lines.Feed.TheVariants.{At, Nowhere}
 use Rattle.frame_lines.specs.declared.lines.Begun.{Begun}
 use Rattle.frame_lines.specs.Lines.{is_feed}
-use Rattle.frame_lines.specs.Stream.{kept_characters}
+use Rattle.frame_lines.specs.Stream.{kept_characters, ended}
 
 -- ---- the next line feed
 
@@ -45,3 +45,8 @@ kept p = take p.length p.bytes
 pub record Keeps (text : List ℕ) (r : Begun) : Type 0 where
   pub good : Good r
   pub kept_is : kept r ≡ text
+
+-- p keeps the beginning of one line: no line ends in it
+pub record GoodBeginning (p : Begun) : Type 0 where
+  pub good : Good p
+  pub unended : ended (kept p) ≡ []

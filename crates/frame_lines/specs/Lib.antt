@@ -8,3 +8,8 @@ pub mod Answer
 pub mod Lines
 pub mod Stream
 pub mod Feeds
+pub mod Search
+pub mod Forgiven
+pub mod Walk
+pub mod Spelling
+pub mod Respelled

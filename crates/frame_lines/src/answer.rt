@@ -1,6 +1,7 @@
 // The line that answers a line.
-ghost use Rattle.std.specs.Prelude.{◌≡◌, ◌<◌};
-ghost use Rattle.frame_lines.specs.Answer.{digit_character, mark, volume_text, number_text, answer_of, held};
+ghost use Rattle.std.specs.Prelude.{◌≡◌, ◌+◌, ◌≤◌, ◌<◌, length};
+ghost use Rattle.std.proofs.Math.Seq.{paste};
+ghost use Rattle.frame_lines.specs.Answer.{digit_character, mark, longest, volume_text, number_text, answer_of, held, PutAs};
 
 use numbers::refusal::Refusal;
 
@@ -73,4 +74,31 @@ pub fn answer(reply: Reply) -> Text
         Reply::Volume(volume, near) => volume_text(volume, near),
         Reply::Refused(cause) => number_text(numbers::refusal::number(cause)),
     }
+}
+
+// A text from a place on.
+fn put(out: &mut [u8], at: usize, text: Text)
+    requires { (length text.bytes ≡ longest) × (text.length ≤ longest) × (at + text.length ≤ length out.old) }
+    ensures { out.new ≡ paste out.old at text.bytes text.length }
+{
+    let count = text.length;
+    for i in 0..count {
+        out[at + i] = text.bytes[i];
+    }
+}
+
+// An answer from a place on, and the place behind it. Where there is no room for the longest, nothing is put.
+pub fn put_reply(out: &mut [u8], at: usize, reply: Reply) -> usize
+    ensures { PutAs (answer_of reply) at out.old out.new result }
+{
+    let room = out.len();
+    if room < LONGEST {
+        return at;
+    }
+    if room - LONGEST < at {
+        return at;
+    }
+    let text = answer(reply);
+    put(out, at, text);
+    at + text.length
 }

@@ -5,3 +5,6 @@ pub mod answer;
 mod digits;
 pub mod line;
 pub mod lines;
+pub mod respelling;
+pub mod search;
+pub mod spelling;

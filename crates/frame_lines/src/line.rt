@@ -2,6 +2,7 @@
 ghost use Rattle.std.specs.Prelude.{◌≡◌, true, ◌+◌, ◌/◌, ◌≤◌, ◌<◌, ◌^◌, length, set};
 ghost use Rattle.frame_lines.specs.Digits.{are_digits};
 ghost use Rattle.frame_lines.specs.Samples.{signed16};
+ghost use Rattle.frame_lines.specs.Line.{is_well_formed};
 ghost use Rattle.frame_lines.specs.Parsed.{sample_of, ParsedAs};
 ghost use Rattle.frame_lines.specs.Reading.{word_at, level_field, head_of, ReadAs};
 
@@ -181,6 +182,24 @@ fn read_samples(text: &[u8], samples: &mut [f32]) -> usize
         return read_digits(text, samples);
     }
     read_tested(text, samples)
+}
+
+// Whether a line, without its line feed, is well formed.
+pub fn is_well_formed(line: &[u8]) -> bool
+    ensures { result ≡ is_well_formed line.now }
+{
+    if line.len() > MOST_CHARACTERS {
+        return false;
+    }
+    let fields = read_head(line);
+    let Head::Fields(volume, probability, level, start) = fields else {
+        return false;
+    };
+    let text = &line[start..];
+    if text.len() % 4 != 0 {
+        return false;
+    }
+    all_digits(text)
 }
 
 // A line, without its line feed. Its samples become the first of the lent slice, as far as that has room; those of a malformed line as far
