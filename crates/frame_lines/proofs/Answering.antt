@@ -3,11 +3,11 @@ use mathlib.Core.Path.{◌≡◌, refl, sym, ap, ◌∙◌}
 use mathlib.Core.Bool.{Bool, true, false}
 use mathlib.Core.List.{List, [], ◌∷◌, ◌++◌}
 use mathlib.Core.Option.{Option, none, some}
-use Prim.Native.Nat.{ℕ, suc, ◌+◌, ◌-◌, ◌≤◌, ◌<◌}
+use Prim.Native.Nat.{ℕ, ◌+◌, ◌-◌, ◌≤◌, ◌<◌}
 use native.Mathlib.Numerals.{add-one}
 use native.Mathlib.Omega.{arith}
 use lib.Dec.{leb, ltb}
-use lib.ListN.{length, take, drop, set, length-append, length-drop, length-map, length-set}
+use lib.ListN.{length, take, drop, set, length-append, length-map}
 use lib.Seq.{take-length, take-suc-set, drop-set-lt, drop-append-add, drop-drop, take-paste, drop-paste}
 use borrow.Author.Tests.{leb-true, leb-false, ltb-false}
 use Rattle.numbers.specs.declared.refusal.Refusal.TheVariants.{FrameLine}
@@ -18,7 +18,7 @@ use Rattle.frame_lines.specs.Line.{Fields}
 use Rattle.frame_lines.specs.Answer.{decimal, number_text, answer_of, laid, PutAs}
 use Rattle.frame_lines.specs.Forgiven.{lowered, fields_in, lenient_meaning}
 use Rattle.frame_lines.specs.Spelling.{spelling}
-use Rattle.frame_lines.specs.Walk.{closed, walked_text, taken_if, respelled_if, tried_if, RespelledAs}
+use Rattle.frame_lines.specs.Walk.{closed, taken_if, respelled_if, tried_if, RespelledAs}
 use Rattle.frame_lines.specs.Respelled.{longest_respelling, respelled_text, text_of_line, AnswersIn}
 use Rattle.frame_lines.proofs.Answers.{had_room}
 use Rattle.frame_lines.proofs.Walking.{closed_short}

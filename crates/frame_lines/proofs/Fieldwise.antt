@@ -5,11 +5,11 @@ use mathlib.Core.List.{List, [], ◌∷◌, ◌++◌, map, append-nil, map-appen
 use Prim.Native.Nat.{ℕ, ◌<◌}
 use native.Mathlib.Nat.{not-suc-le-zero}
 use native.Mathlib.Omega.{arith}
-use lib.Dec.{leb, eqb}
+use lib.Dec.{leb}
 use lib.ListN.{length}
 use borrow.Author.Tests.{leb-true, ne_eqb, lt-leb}
 use Rattle.frame_lines.specs.Digits.{is_decimal, is_letter, is_digit, are_digits}
-use Rattle.frame_lines.specs.Forgiven.{is_capital, lowered_if, lowered, is_space, begins_field, field_if, fields_in, spaced, with_samples, forgiven}
+use Rattle.frame_lines.specs.Forgiven.{is_capital, lowered_if, lowered, is_space, begins_field, field_if, fields_in, spaced, with_samples}
 use Rattle.frame_lines.proofs.Tests.{both, and_false}
 
 -- ---- a text without a blank

@@ -2,20 +2,18 @@
 use mathlib.Core.Path.{◌≡◌, refl, sym, ap, ◌∙◌}
 use mathlib.Core.Bool.{Bool, true, false, ◌&&◌}
 use mathlib.Core.List.{List, [], ◌∷◌, ◌++◌, map}
-use mathlib.Core.Option.{Option, none, some}
 use Prim.Native.Nat.{ℕ, ◌+◌, ◌≤◌, ◌<◌}
 use native.Mathlib.Omega.{arith}
-use lib.Dec.{leb, eqb}
-use lib.ListN.{length, get_or, take, drop, length-drop, take-append-drop}
+use lib.Dec.{leb}
+use lib.ListN.{length, get_or, drop, length-drop, take-append-drop}
 use lib.Seq.{length-take-le, drop-drop}
 use borrow.Author.Tests.{eqb-true, leb-true}
-use Rattle.frame_lines.specs.Digits.{are_digits, number}
-use Rattle.frame_lines.specs.Samples.{are_samples, samples_in}
+use Rattle.frame_lines.specs.Digits.{are_digits}
+use Rattle.frame_lines.specs.Samples.{are_samples}
 use Rattle.frame_lines.specs.Line.{most_characters, part, is_blank, is_dashed, level_is_good, samples_start, sample_text, head_is_good, is_framed, is_well_formed, level_if, fields_of}
-use Rattle.frame_lines.specs.Answer.{digits_of}
 use Rattle.frame_lines.specs.Forgiven.{lowered, spaced, with_samples, fields_in, forgiven}
-use Rattle.frame_lines.specs.Spelling.{samples_text, level_text, spelling}
-use Rattle.frame_lines.proofs.Tests.{Both, both}
+use Rattle.frame_lines.specs.Spelling.{level_text, spelling}
+use Rattle.frame_lines.proofs.Tests.{both}
 use Rattle.frame_lines.proofs.Parts.{behind}
 use Rattle.frame_lines.proofs.Heads.{blank_within}
 use Rattle.frame_lines.proofs.SampleTexts.{all_digits}

@@ -1,8 +1,8 @@
 -- What the lenient reader takes is written in one spelling: the line with its blanks and capitals forgiven. Assumes nothing.
-use mathlib.Core.Path.{◌≡◌, refl, sym, ap, subst, ◌∙◌}
+use mathlib.Core.Path.{◌≡◌, refl, sym, ap, ◌∙◌}
 use mathlib.Core.Bool.{Bool, true, false}
 use mathlib.Core.List.{List}
-use mathlib.Core.Option.{Option, none, some}
+use mathlib.Core.Option.{some}
 use Prim.Native.Nat.{ℕ, ◌≤◌}
 use native.Mathlib.Omega.{arith}
 use lib.Dec.{leb}
@@ -12,7 +12,7 @@ use Rattle.frame_lines.specs.Line.{most_characters, is_well_formed, Fields, fiel
 use Rattle.frame_lines.specs.Forgiven.{forgiven, lenient_if, lenient_meaning}
 use Rattle.frame_lines.specs.Spelling.{spelling}
 use Rattle.frame_lines.proofs.InOrder.{short, own_spelling, nothing_forgiven}
-use Rattle.frame_lines.proofs.Readers.{short_lenient, meant}
+use Rattle.frame_lines.proofs.Readers.{short_lenient}
 
 -- ---- the strict reader
 

@@ -1,6 +1,6 @@
 -- However a text comes to `feed`, in pieces of any number and size, the bytes that are put are the definition's of the whole. Assumes nothing.
 use mathlib.Core.Path.{◌≡◌, refl, sym, ap, ◌∙◌}
-use mathlib.Core.Bool.{Bool, true}
+use mathlib.Core.Bool.{Bool}
 use mathlib.Core.List.{List, [], ◌∷◌, ◌++◌, flatten}
 use mathlib.Core.Option.{Option, none, some}
 use Prim.Native.Nat.{ℕ, suc, ◌+◌, ◌-◌, ◌≤◌, ◌<◌}
@@ -12,7 +12,7 @@ use Rattle.frame_lines.specs.declared.respelling.Fed.{Fed}
 use Rattle.frame_lines.specs.Search.{first_of}
 use Rattle.frame_lines.specs.Stream.{cut, ended, begun, handed_on}
 use Rattle.frame_lines.specs.Feeds.{kept, Keeps}
-use Rattle.frame_lines.specs.Respelled.{longest_respelling, text_of_line, text_of_lines, respelled_of, AnswersIn, used_if, used_from, up_to_feed, used_of, FedAs, finished_if, Run, ends, feeds}
+use Rattle.frame_lines.specs.Respelled.{longest_respelling, text_of_line, text_of_lines, respelled_of, used_if, used_from, up_to_feed, used_of, FedAs, finished_if, Run, ends, feeds}
 use Rattle.frame_lines.proofs.Pieces.{pieces_read, begun_all}
 use Rattle.frame_lines.proofs.Wholes.{text_append}
 use Rattle.frame_lines.proofs.Fedways.{cut_text}

@@ -2,7 +2,7 @@
 use mathlib.Core.Path.{◌≡◌, refl, sym, ap, ◌∙◌}
 use mathlib.Core.Bool.{Bool, true, false}
 use mathlib.Core.List.{List, [], ◌∷◌, map}
-use mathlib.Core.Option.{Option, none, some}
+use mathlib.Core.Option.{none, some}
 use Prim.Native.Nat.{ℕ, zero, suc, ◌≤◌, ◌<◌}
 use native.Mathlib.Omega.{arith}
 use lib.Dec.{leb, ltb, eqb}
@@ -14,7 +14,7 @@ use Rattle.frame_lines.specs.declared.spelling.Respelled.TheVariants.{Malformed,
 use Rattle.frame_lines.specs.declared.spelling.Walked.{Walked}
 use Rattle.frame_lines.specs.Line.{is_well_formed, Fields, fields_of}
 use Rattle.frame_lines.specs.Answer.{laid}
-use Rattle.frame_lines.specs.Forgiven.{lowered, fields_in, spaced, with_samples, forgiven, lenient_meaning}
+use Rattle.frame_lines.specs.Forgiven.{lowered, fields_in, forgiven, lenient_meaning}
 use Rattle.frame_lines.specs.Spelling.{spelling}
 use Rattle.frame_lines.specs.Walk.{closed, walked_text, WalkedAs, length_if, forgiven_length, taken_if, respelled_if, tried_if, RespelledAs}
 use Rattle.frame_lines.proofs.Readers.{short_lenient, meant, unmeant}

@@ -5,7 +5,6 @@ use mathlib.Core.List.{List, [], ◌∷◌, ◌++◌, map, append_assoc, append-
 use mathlib.Core.Option.{Option, none, some}
 use Prim.Native.Nat.{ℕ, zero, suc, ◌+◌, ◌-◌, ◌≤◌, ◌<◌}
 use native.Mathlib.Omega.{arith}
-use lib.Dec.{eqb}
 use lib.ListN.{length, get_or, take, drop, set, length-append, length-map, length-drop, drop_of_length-le, take-append-drop}
 use lib.Seq.{take-append_seam, set-append_seam, drop-cons, drop-drop, take-length, drop-length, length-take-le, paste}
 use borrow.Author.Tests.{eq-eqb, ne_eqb}
@@ -14,9 +13,8 @@ use Rattle.frame_lines.specs.declared.search.Place.TheVariants.{At, Nowhere}
 use Rattle.frame_lines.specs.Line.{part}
 use Rattle.frame_lines.specs.Answer.{laid}
 use Rattle.frame_lines.specs.Search.{here_if, first_of, place_of}
-use Rattle.frame_lines.specs.Forgiven.{lowered, is_space, begins_field, field_if, fields_in, spaced, with_samples, forgiven}
+use Rattle.frame_lines.specs.Forgiven.{lowered, is_space, begins_field, field_if, fields_in, spaced, with_samples}
 use Rattle.frame_lines.specs.Walk.{FieldBehind, FieldTo, closed, length_if, forgiven_length, WalkedAs}
-use Rattle.frame_lines.proofs.Tests.{Both, both}
 use Rattle.frame_lines.proofs.Parts.{behind}
 use Rattle.frame_lines.proofs.Searching.{found_if, least_if, lost_if}
 use Rattle.frame_lines.proofs.Answers.{put_behind}

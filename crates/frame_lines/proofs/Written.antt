@@ -2,12 +2,12 @@
 use mathlib.Core.Path.{◌≡◌, refl, sym, ap, ◌∙◌}
 use mathlib.Core.Bool.{Bool, true, false, ◌&&◌, ◌||◌}
 use mathlib.Core.List.{List, [], ◌∷◌, ◌++◌, append_assoc, append-nil}
-use Prim.Native.Nat.{ℕ, suc, ◌+◌, ◌*◌, ◌-◌, ◌/◌, ◌%◌, ◌^◌, ◌≤◌, ◌<◌}
+use Prim.Native.Nat.{ℕ, suc, ◌+◌, ◌*◌, ◌-◌, ◌/◌, ◌%◌, ◌^◌, ◌<◌}
 use native.Mathlib.Omega.{arith}
 use lib.Dec.{leb, ltb}
-use lib.IntN.{ℤ, pos, negsuc, neg_ℤ}
+use lib.IntN.{pos, neg_ℤ}
 use lib.ListN.{length}
-use borrow.Author.Tests.{leb-true, lt-ltb, le-ltb, ltb-false}
+use borrow.Author.Tests.{leb-true, lt-ltb, le-ltb}
 use Rattle.frame_lines.specs.Digits.{is_decimal, is_letter, is_digit, digit_if, digit, are_digits, number_after, number}
 use Rattle.frame_lines.specs.Samples.{four, signed_if, signed16, are_samples, sample_if, samples_in}
 use Rattle.frame_lines.specs.Answer.{digit_character_if, digit_character, digits_of}
