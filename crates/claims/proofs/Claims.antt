@@ -36,6 +36,7 @@ use Rattle.claims.proofs.LowestIsApplied.{lowest_is_applied}
 use Rattle.claims.proofs.Controlling.{controlling_is_lowest}
 use Rattle.claims.proofs.None.{none_exactly}
 use Rattle.claims.proofs.Samples.{samples_are_exact}
+use Rattle.claims.proofs.OneSpelling.{blanks_and_capitals_forgiven, one_spelling}
 
 pub claims : Claims
 claims = record {
@@ -79,5 +80,7 @@ claims = record {
   classroom_keeps_minimum = classroom_keeps_minimum;
   classroom_is_needed = classroom_is_needed;
   samples_are_exact = samples_are_exact;
+  blanks_and_capitals_forgiven = blanks_and_capitals_forgiven;
+  one_spelling = one_spelling;
   none = none_exactly;
 }

@@ -76,4 +76,5 @@ pub mod ClassroomNeeded
 pub mod Needed
 pub mod ExampleLines
 pub mod Samples
+pub mod OneSpelling
 pub mod Claims

@@ -33,6 +33,7 @@ use Rattle.claims.specs.EachTakesItsOwn.{EachTakesItsOwn}
 use Rattle.claims.specs.LowestIsApplied.{LowestIsApplied}
 use Rattle.claims.specs.Controlling.{ControllingIsLowest}
 use Rattle.claims.specs.Samples.{SamplesAreExact}
+use Rattle.claims.specs.OneSpelling.{BlanksAndCapitalsForgiven, OneSpelling}
 use Rattle.claims.specs.None.{NoneExactly}
 
 pub record Claims : Type 0 where
@@ -106,5 +107,9 @@ pub record Claims : Type 0 where
   pub classroom_is_needed : ClassroomIsNeeded
   -- the library's converters of 16-bit samples and of samples of ±1.0 round nothing
   pub samples_are_exact : SamplesAreExact
+  -- one spelling of a frame line: capitals, several blanks and blanks at the ends make no difference to the lenient reader; two lines that it takes have equal meaning exactly when the writer gives them equal bytes; what is
+  -- written is taken by document 01's reader, for the same, and written as it is
+  pub blanks_and_capitals_forgiven : BlanksAndCapitalsForgiven
+  pub one_spelling : OneSpelling
   -- the recommendation is none exactly if no frame was accepted since the latest of making, initialise and recommendation with capture on
   pub none : NoneExactly

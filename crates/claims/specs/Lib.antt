@@ -36,4 +36,5 @@ pub mod Classroom
 pub mod Needed
 pub mod ExampleLines
 pub mod Samples
+pub mod OneSpelling
 pub mod Claims
