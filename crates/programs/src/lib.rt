@@ -2,3 +2,5 @@
 #![tactic(auto)]
 
 pub mod framelines;
+mod going;
+pub mod respell;
