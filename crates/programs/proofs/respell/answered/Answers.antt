@@ -1,11 +1,10 @@
 -- `programs::respell::answered` meets its contract: each turn uses some of the piece, and keeps what that has begun. Assumes nothing.
 use mathlib.Core.Path.{◌≡◌, sym}
-use mathlib.Core.List.{List}
 use Prim.Native.Nat.{ℕ, ◌+◌, ◌-◌, ◌≤◌, ◌<◌}
 use native.Mathlib.Omega.{arith}
 use lib.ListN.{length, take, drop}
 use lib.Seq.{length-take-le}
-use Rattle.programs.proofs.Reached.{Reached, starts, whole, left_length, some_more, used_within, put_within, goes_on, next_room}
+use Rattle.programs.proofs.Reached.{Reached, starts, whole, some_more, used_within, put_within, goes_on, next_room}
 use borrow.Rule.Slice.PartMut.{put_mid}
 use borrow.Author.Rules.{rules}
 use Rattle.programs.proofs.respell.answered.Goals as goal

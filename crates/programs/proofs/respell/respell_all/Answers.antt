@@ -1,12 +1,11 @@
 -- `programs::respell::respell_all` goes from reading to reading, and keeps the beginning of a line in good order. Assumes nothing.
-use mathlib.Core.Path.{◌≡◌, refl, ap}
+use mathlib.Core.Path.{ap}
 use mathlib.Core.List.{[]}
 use Prim.Native.Nat.{ℕ}
-use lib.ListN.{length, length-replicate}
+use lib.ListN.{length-replicate}
 use Rattle.frame_lines.specs.declared.lines.Begun.{Begun}
 use Rattle.frame_lines.specs.Stream.{ended}
 use Rattle.frame_lines.specs.Feeds.{Keeps, GoodBeginning}
-use borrow.Author.Rules.{rules}
 use Rattle.programs.proofs.respell.respell_all.Goals as goal
 
 fresh : {p : Begun} → Keeps [] p → GoodBeginning p
