@@ -3,14 +3,14 @@
 
 usage: edits.py [NAME ..]     from the repository's root; NAME is a crate, or CRATE/EDIT for one edit; all of them by default
 
-Works in a copy of the tree: applies each edit of crates/NAME/must-fail and oracle/edits/NAME, asks `rt dev NAME` (which checks only what an edit touches), prints the fact that it is refused
+Works in a copy of the tree: applies each edit of crates/NAME/must-fail and oracle/edits/NAME, asks `rt check` (which checks only what an edit touches), prints the fact that it is refused
 for, and takes it back. An edit file is a sentence, and then lines `file:`, `old:` and `new:`. Exits with 1 if an edit is not refused, or is refused at no fact (wrong.py says what one is).
 """
 import os
 import sys
 import tempfile
 
-from wrong import copy_tree, dev, in_short, refusal, replaced
+from wrong import check, copy_tree, in_short, refusal, replaced
 
 
 def changes_of(folder, lines):
@@ -32,11 +32,11 @@ def edits_of(root, name):
             yield from (f"{folder}/{edit}" for edit in sorted(os.listdir(folder)))
 
 
-def verdict(out):
+def verdict(proved, out):
     """Whether an edit is refused at a fact, and in what words."""
-    proved, facts, others = refusal(out)
     if proved:
         return False, "NOT REFUSED"
+    facts, others = refusal(out)
     if not facts:
         return False, "REFUSED AT NO FACT: " + in_short(others[0] if others else ("", "", out[-300:]))
     return True, "refused, " + in_short(facts[0])
@@ -50,13 +50,13 @@ def main():
     for name, *only in asked:
         edits = [edit for edit in edits_of(root, name) if not only or os.path.basename(edit) == only[0] + ".edit"]
         if edits:
-            out = dev(name)
-            assert refusal(out)[0], (name, out[-3000:])
+            proved, out = check(name)
+            assert proved, (name, out[-3000:])
         for edit in edits:
             with open(edit) as f:
                 changes = list(changes_of(f"crates/{name}/", f.read().split("\n")))
             with replaced(changes):
-                at_fact, words = verdict(dev(name))
+                at_fact, words = verdict(*check(name))
             print(f"{name}/{os.path.basename(edit)[:-5]}: {words}", flush=True)
             tried += 1
             failed += not at_fact

@@ -16,30 +16,35 @@ FACTS = [
     r"≟ .*does not hold",
     # `omega`: a counterexample, values at which all that it read holds and its goal does not
     r"All of that holds, and the (goal|part) fails, at",
+    # `grind`: the same, where it looked into all definitions that the goal names ("these may not break the goal" it says of others)
+    r"The hypotheses hold, and the (goal|part) fails at",
     # `cc`, `rw`: the two sides of an equation are not equal by what is given
     r"`cc`: the equations do not join",
     r"what it leaves must be a path whose two ends are equal, and .*is none",
 ]
 
-# A step that looked for something and did not find it. No fact was seen to fail, so this is no reason by itself; others in the same file may be.
-SOUGHT = r"`search`: no proof of|`rw`: no occurrence of the path's left endpoint"
+# A step that looked for something and did not find it. Where `grind`, which a search asks, has no counterexample, no fact was seen to fail, so this is no reason by itself; others in the same
+# file may be.
+SOUGHT = r"`search`: no proof of(?!.*The hypotheses hold, and the (goal|part) fails at)|`rw`: no occurrence of the path's left endpoint"
 
 # What is left of a refused declaration wherever it is named, and of a function wherever it is called: says nothing by itself.
-FOLLOWS = r"was not admitted \(|declarations that were not admitted|cannot be unfolded because it was not admitted"
+FOLLOWS = r"that depends? on `.*`, which was (rejected|not admitted)|was not admitted \(|cannot be unfolded because it was not admitted"
 
 # Any other error is a file that cannot be read as it stands: `error[..]` of the compiler, a line that starts at a wrong column, a name that is not there ("is not in scope", "that can be named
-# from here"), a proof file that no longer fits its function ("has no field `if1`", "has no `Need-returns-4`"), a definition without a clause. It takes the word of all else in that file.
+# from here"), a proof file that no longer fits its function ("has no field `if1`", "has no `returns-2`"), a definition without a clause. It takes the word of all else in that file.
 
 ERROR = re.compile(r"(\S+?):(\d+:\d+): error(\[\S+\])?: (.*)", re.S)
-# A function without a proof file: rattle's own proof searches, and the search has asked `omega`. Where it ends in "no proof: expected ..; `search` does not close `returns`" without a
-# counterexample, no fact was seen to fail.
+# A goal that no proof file answers: Rattle's own search asks for values at which all that is known there holds and the goal does not. Where it ends in "no proof: expected ..; `search` did not
+# prove `returns`" without such values, no fact was seen to fail.
+MAY_BE_FALSE = re.compile(r"note: (`\S+`) of (\S+) may be false: (the known facts allow .*?)(?:: help: .*)?$", re.S)
+# What it says of a search that asked `omega`.
 SEARCHED = re.compile(r"note: what antt said of a `search` in the proof that rattle made: (\S+?):(\d+:\d+): (.*)", re.S)
 
 
 def copy_tree(root):
-    """The crates, copied to a folder, in which the work goes on."""
+    """The crates, copied to a folder without what was made of them, in which the work goes on."""
     os.makedirs(root, exist_ok=True)
-    shutil.copytree("crates", root + "/crates")
+    shutil.copytree("crates", root + "/crates", ignore=shutil.ignore_patterns("out"))
     shutil.copy("crates.txt", root)
     os.chdir(root)
 
@@ -86,13 +91,13 @@ def counterexample(text):
 
 
 def refusal(out):
-    """What `rt dev` printed: whether the crate is proved, the facts that no longer hold, as (path, place, words), and what else was said."""
+    """What `check` returned: the facts that no longer hold, as (path, place, words), and what else was said."""
     facts, others, unfit = [], [], set()
     for text in messages(out):
-        error, searched = ERROR.match(text), SEARCHED.match(text)
+        error, searched, false = ERROR.match(text), SEARCHED.match(text), MAY_BE_FALSE.match(text)
         if error and not re.search(FOLLOWS, text):
             said = error[1].split("/crates/")[-1], error[2], error[4]
-            if re.search(SOUGHT, text):
+            if re.search(SOUGHT, text, re.S):
                 others.append(said)
             elif "/proofs/" in said[0] and any(re.search(fact, text, re.S) for fact in FACTS):
                 facts.append(said)
@@ -101,15 +106,17 @@ def refusal(out):
                 unfit.add(said[0])
         elif searched and counterexample(text):
             facts.append((searched[1].split("/crates/")[-1], searched[2], searched[3][searched[3].index("`omega`: the"):]))
-        elif re.match(r"fn \S+: no proof|rattle|rt: .*NOT PROVED", text):
+        elif false:
+            facts.append((false[2], false[1], false[3]))
+        elif re.match(r"fn \S+: (no proof|not proved)|rattle|rt: the library \S+ did not build", text):
             others.append(("", "", text))
-    verdict = re.findall(r"^(?:logic=\S+|rt: FAILED)", out, re.M)
-    return verdict[-1:] == ["logic=proved"], [fact for fact in facts if fact[0] not in unfit], others
+    return [fact for fact in facts if fact[0] not in unfit], others
 
 
-def dev(name):
-    """What `rt dev` says of a crate, whole."""
-    return subprocess.run(["rt", "dev", name], stdout=subprocess.PIPE, stderr=subprocess.STDOUT, env={**os.environ, "RT_CUT": "0"}).stdout.decode(errors="replace")
+def check(name):
+    """Whether `rt check` proves a crate, over what it kept of it, and all that it says, with the crate's own files as NAME/proofs/F/Answers.antt."""
+    ran = subprocess.run(["rt", "check"], cwd="crates/" + name, stdin=subprocess.DEVNULL, stdout=subprocess.PIPE, stderr=subprocess.STDOUT)
+    return ran.returncode == 0, re.sub(r"(?<![\w./])(?:\./)?((?:src|specs|proofs)/\S+\.(?:rt|antt))", rf"{name}/\1", ran.stdout.decode(errors="replace"))
 
 
 def in_short(said):
