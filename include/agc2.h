@@ -1,6 +1,6 @@
 /* The input volume controller of WebRTC's AGC2, over a library in which every function is proved to meet its contract.
  *
- * Link libagc2.a or libagc2.so, which `tools/install` puts under a prefix with this file, pkg-config's agc2.pc and CMake's package agc2, or target/staticlib/libagc2.a, which `rt staticlib agc2` writes
+ * Link libagc2.a or libagc2.so, which `tools/install` puts under a prefix with this file, pkg-config's agc2.pc and CMake's package agc2, or target/staticlib/libagc2.a, which `tools/archive` writes
  * (x86-64, System V ABI; the archive needs memcpy and memset and nothing else). An archive of another layout does not link: the name in AGC2_LAYOUT is not in it.
  *
  *     agc2_controller controller;

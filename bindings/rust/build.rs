@@ -1,4 +1,4 @@
-//! Links the archive that `rt staticlib agc2` writes. Where there is none, checks and documentation are made all the same, and nothing links.
+//! Links the archive that `tools/archive` writes. Where there is none, checks and documentation are made all the same, and nothing links.
 use std::env;
 use std::path::PathBuf;
 use std::process::exit;
@@ -12,7 +12,7 @@ fn main() {
     println!("cargo:rerun-if-changed={}", archive.display());
     if !archive.is_file() {
         println!("cargo:warning=There is no {ARCHIVE} in {}, and without it nothing links.", folder.display());
-        println!("cargo:warning=Run `rt staticlib agc2` at the root of the repository, which proves the library and writes the archive,");
+        println!("cargo:warning=Run `tools/archive` at the root of the repository, which proves the library and writes the archive,");
         println!("cargo:warning=or set AGC2_LIB_DIR to the folder that holds it.");
     }
     println!("cargo:rustc-link-search=native={}", folder.display());
