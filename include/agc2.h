@@ -20,7 +20,7 @@
  * may be copied and moved; two threads must not use one at once.
  * The proofs take floats to work as they do by default: rounded to nearest, with no subnormal number flushed to zero.
  *
- * The stack that a call needs, as measured with clang and gcc at -O0 and -O2: 55.4 KB for a frame, 70.9 KB for one that is put in a frame's order first, 34.7 KB for a making, 14.2 KB for
+ * The stack that a call needs, as measured with clang and gcc at -O0 and -O2: 23.6 KB for a frame, 39.1 KB for one that is put in a frame's order first, 14.9 KB for a making, 14.2 KB for
  * agc2_stored_record and agc2_compute_partial_metrics, 1.9 KB for any other (bindings/c/stack.c); where memcpy is bound late, the first call needs 3 KB more. */
 #ifndef AGC2_H
 #define AGC2_H

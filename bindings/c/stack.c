@@ -136,7 +136,7 @@ int main(void) {
     static const char *const names[CALLS] = {"agc2_new", "agc2_new_with_predictor", "agc2_new_classroom", "agc2_new_classroom_with_predictor", "a frame", "a frame with a set", "a frame of the spotter",
                                              "a frame of the spotter with a set", "agc2_analyze_interleaved_i16", "agc2_analyze_channels", "agc2_analyze_unit_channels", "a recommendation", "initialise",
                                              "the capture switch", "agc2_stored_record", "agc2_compute_partial_metrics"};
-    static const long bounds[CALLS] = {34700, 34700, 34700, 34700, 55400, 55400, 55400, 55400, 70900, 70900, 70900, 1900, 1900, 1900, 14200, 14200};
+    static const long bounds[CALLS] = {14900, 14900, 14900, 14900, 23600, 23600, 23600, 23600, 39100, 39100, 39100, 1900, 1900, 1900, 14200, 14200};
     long seen[CALLS] = {0};
     stack = aligned_alloc(4096, SIZE);
     srand(7);

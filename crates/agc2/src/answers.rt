@@ -67,6 +67,8 @@ pub struct VolumeNumbers {
     pub volume: i32,
 }
 
+// Out of line for the stack's sake.
+#[inline(never)]
 pub fn outcome_number(answer: Outcome) -> u32
     ensures { result ≡ outcome_number (outcome_says answer) }
 {

@@ -65,7 +65,8 @@ fn beside(refusal: u32, near: u32, c: InputVolumeController) -> Agc2Controller
     }
 }
 
-// Within a profile, 0 for everybody and any other number for group teaching, with any predictor: causes 1 to 6, then, with the predictor off too, 7, 14 and 15, and then 19. Every making comes here.
+// Within a profile, 0 for everybody and any other number for group teaching, with any predictor: causes 1 to 6, then, with the predictor off too, 7, 14 and 15, and then 19. Every making comes here, and it goes into each, for the stack's sake.
+#[inline(always)]
 pub fn agc2_new_in_profile_by_value(
     profile: u32,
     num_capture_channels: i32,
@@ -126,7 +127,8 @@ pub fn agc2_handle_capture_output_used_change_by_value(
     plain_control(whole_control(control).handle_capture_output_used_change(on))
 }
 
-// A frame, with the answer to the one before it still beside the controller.
+// A frame, with the answer to the one before it still beside the controller. It goes into each entry, for the stack's sake.
+#[inline(always)]
 fn analyzed(
     before: Agc2Controller,
     given: GivenVolumes,

@@ -85,6 +85,8 @@ fn fresh(channels: usize, settings: Settings) -> ClippingPredictor
     }
 }
 
+// It goes into its caller, for the stack's sake.
+#[inline(always)]
 pub fn create_clipping_predictor(num_channels: i32, config: ClippingPredictorConfig) -> Created
     ensures { CreatedOf num_channels config result }
 {

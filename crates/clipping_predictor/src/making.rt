@@ -33,7 +33,8 @@ fn refused(cause: Refusal) -> Decided
     }
 }
 
-// Tests cause 1, and then 7, 14 and 15.
+// Tests cause 1, and then 7, 14 and 15. Out of line for the stack's sake.
+#[inline(never)]
 pub fn decide(num_channels: i32, config: ClippingPredictorConfig) -> Decided
     ensures { DecidedAs (making_of num_channels config) result }
 {

@@ -214,7 +214,8 @@ fn unheard(clipped: u32) -> Brought
     }
 }
 
-// Of a predictor that is on all channels are measured; of one that is off their clipped samples are counted, if anything is asked.
+// Of a predictor that is on all channels are measured; of one that is off their clipped samples are counted, if anything is asked. Out of line for the stack's sake.
+#[inline(never)]
 pub(crate) fn bring(
     on: bool,
     channels: usize,

@@ -330,7 +330,8 @@ pub fn estimate_for(s: Settings, ring: ClippingPredictorLevelBuffer, a: Asked) -
     from_windows(s, a, newest, older)
 }
 
-// What a ring answers.
+// What a ring answers. Out of line for the stack's sake.
+#[inline(never)]
 pub fn answered(s: Settings, ring: ClippingPredictorLevelBuffer, question: Question) -> Estimated
     requires { GoodFor s ring }
     ensures { result ≡ estimated_for question s (stored ring) }

@@ -112,6 +112,8 @@ impl ClippingPredictorLevelBuffer {
         }
     }
 
+    // Out of line for the stack's sake.
+    #[inline(never)]
     pub fn new(capacity: i32) -> Made
         ensures { MadeOf capacity result }
     {
@@ -172,7 +174,8 @@ impl ClippingPredictorLevelBuffer {
         r
     }
 
-    // `push` of a level, whose count is unsigned.
+    // `push` of a level, whose count is unsigned. Out of line for the stack's sake.
+    #[inline(never)]
     pub fn push_level(self, level: Level) -> AfterPush
         requires { Good self }
         ensures { PushedOf (pos level.clipped) self level result }

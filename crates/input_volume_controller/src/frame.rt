@@ -35,7 +35,8 @@ fn question(control: VolumeControl) -> Question
     })
 }
 
-// Whether two drops, 0 for none, return different states. Nothing is tried where they are one, as in nearly every frame.
+// Whether two drops, 0 for none, return different states. Nothing is tried where they are one, as in nearly every frame. Out of line for the stack's sake.
+#[inline(never)]
 fn differ(clipped: bool, control: VolumeControl, drop: u8, other: u8) -> bool
     requires { GoodControl control }
     ensures { result ≡ differ clipped (control_of control) drop other }

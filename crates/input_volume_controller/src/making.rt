@@ -109,7 +109,8 @@ fn within_profile(taken: bool, plain: Decided) -> Decided
     }
 }
 
-// All refusals of the plain controller come first, and then the profile's.
+// All refusals of the plain controller come first, and then the profile's. Out of line for the stack's sake.
+#[inline(never)]
 pub fn decide_in(
     profile: Profile,
     num_capture_channels: i32,

@@ -152,7 +152,8 @@ impl VolumeControl {
         }
     }
 
-    // Each channel takes its own volume, and the lowest is pending from now on.
+    // Each channel takes its own volume, and the lowest is pending from now on. Out of line for the stack's sake.
+    #[inline(never)]
     pub fn set_applied_input_volumes(self, levels: [u8; MAX_CHANNELS]) -> VolumeControl
         requires { Good self }
         ensures { Becomes (with_applied_input_volumes (levels_of levels self.channels.count) (control_of self)) result }
@@ -235,7 +236,8 @@ impl VolumeControl {
     }
 }
 
-// Clipping lowers every channel and restarts the wait.
+// Clipping lowers every channel and restarts the wait. Out of line for the stack's sake.
+#[inline(never)]
 pub fn lower_channels(control: VolumeControl, step: u8) -> VolumeControl
     requires { Good control }
     ensures { Becomes (lower_channels step (control_of control)) result }
