@@ -30,8 +30,8 @@
 //! one, so no safe code can break that. The proofs take floats to work as they do by default, and as Rust does: rounded to nearest, with no
 //! subnormal number flushed to zero.
 //!
-//! The stack that a call needs, as measured: 56 KB for a frame, 71 KB for what devices give, up to 21 KB for [`InputVolumeController::stored_record`] and
-//! [`InputVolumeController::compute_partial_metrics`] and up to 56 KB for a making that goes into a box (all four in a debug build), 3 KB for any other.
+//! The stack that a call needs, as measured: 24 KB for a frame, 40 KB for what devices give, up to 21 KB for [`InputVolumeController::stored_record`] and
+//! [`InputVolumeController::compute_partial_metrics`] and up to 36 KB for a making that goes into a box (all four in a debug build), 3 KB for any other.
 #![no_std]
 #![deny(missing_docs, unsafe_op_in_unsafe_fn)]
 #![warn(clippy::missing_errors_doc, clippy::undocumented_unsafe_blocks)]
