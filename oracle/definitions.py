@@ -223,7 +223,7 @@ EDITS = [
         (RING + "Ring.antt", "push capacity level records = take capacity (level ∷ records)", "push capacity level records = take capacity (carried level records ∷ records)")]),
     # ---- document 02 (xiv)
     ("every channel gets the lowest volume of the set", "EachTakesItsOwn", [
-        (IVC + "ControlCalls.antt", "ChannelCall.TheVariants.{", "ChannelCall.TheVariants.{StreamAnalogLevel, "),
+        (IVC + "ControlCalls.antt", "specs.Channels.{", "specs.Channels.{StreamAnalogLevel, "),
         (IVC + "ControlCalls.antt", APPLIED, "with_applied_input_volumes volumes c = aggregated (with_applied (Volume (lowest_of volumes)) (each_channel (StreamAnalogLevel (lowest_of volumes)) c))")]),
     ("the first volume of a set is the applied one", "LowestIsApplied", [
         (IVC + "Volumes.antt", "lowest_of (volume ∷ volumes) = lowest_from volume volumes", "lowest_of (volume ∷ volumes) = volume")]),

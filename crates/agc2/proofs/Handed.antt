@@ -6,17 +6,14 @@ use native.Mathlib.Omega.{arith}
 use lib.IntN.{ℤ}
 use lib.Signed.{mag}
 use lib.Ieee.{Float}
-use mir.Syntax.{w32}
-use mir.Val.{of_z, to_z, SFits}
-use mir.ValLaws.{to_z-of_z}
-use Rattle.numbers.specs.Said.{outcome_says}
+use Rattle.std.specs.Prelude.{Bool, Err, Ok, Result}
 use Rattle.numbers.proofs.Signs.{read}
 use Rattle.clipping_predictor.specs.declared.settings.ClippingPredictorConfig.{ClippingPredictorConfig}
 use Rattle.mono_input_volume_controller.specs.declared.config.Config.{Config}
 use Rattle.mono_input_volume_controller.specs.declared.profile.Profile.{Profile}
 use Rattle.numbers.specs.declared.refusal.Refusal.{Refusal}
+use Rattle.numbers.specs.Said.{said}
 use Rattle.input_volume_controller.specs.declared.limits.Limits.{Limits}
-use Rattle.input_volume_controller.specs.declared.Analysis.{Analysis}
 use Rattle.input_volume_controller.specs.declared.Analyzed.{Analyzed}
 use Rattle.input_volume_controller.specs.declared.Created.{Created}
 use Rattle.input_volume_controller.specs.declared.volume_control.VolumeControl.{VolumeControl}
@@ -39,9 +36,7 @@ use Rattle.agc2.specs.declared.answers.Agc2Controller.{Agc2Controller}
 use Rattle.agc2.specs.Settings.{predictor_config_of, predictor_in_numbers}
 use Rattle.agc2.specs.Whole.{whole_of, beside_of}
 use Rattle.agc2.specs.Answers.{outcome_number, frame_numbers, volume_numbers}
-use Rattle.agc2.specs.declared.given.GivenVolumes.{GivenVolumes}
-use Rattle.agc2.specs.Given.{GivesWithin, GivesAll}
-use Rattle.agc2.specs.Calls.{CreatedAs, AnalyzedEachOf, AnalyzedGivenOf, RecommendedAs}
+use Rattle.agc2.specs.Calls.{CreatedAs, AnalyzedEachOf, RecommendedAs}
 
 pub back : (n m : ℕ) (d : InputVolumeController) → whole_of (beside_of n m d) ≡ d
 back n m d = λ i. together (control_again d.control i) (predictor_again d.predictor i)
@@ -71,25 +66,25 @@ pub base_back : predictor_config_of (predictor_in_numbers base_predictor) ≡ ba
 unfolding predictor_config_of mode_of
 base_back = refl
 
-created : {making : Making.Making} (m : Created) {n : ℕ} {r : Agc2Controller} → n ≡ outcome_number (outcome_says m.answer) → r ≡ beside_of n 0 m.controller → Making.CreatedAs making m → CreatedAs making r
+created : {making : Making.Making} (m : Created) {n : ℕ} {r : Agc2Controller} → n ≡ outcome_number (said m.answer) → r ≡ beside_of n 0 m.controller → Making.CreatedAs making m → CreatedAs making r
 created {making} m {n} f e h =
     subst (λ (x : Agc2Controller). CreatedAs making x) (sym e)
     (record { refusal = f ∙ ap outcome_number h.answer; near = refl; unanswered = record { present = refl; volume = refl }; becomes = becomes n 0 m.controller h.good h.view })
 
 -- within any profile, with the arguments as the machine reads them back
 pub created_in : {profile told : Profile} (channels : ℤ) {c d : Config} {p q : ClippingPredictorConfig} (m : Created) {n : ℕ} {r : Agc2Controller} → mag channels < 2 ^ 31 → told ≡ profile → c ≡ d → p ≡ q
-    → CreatedIn told (read channels) c p m → n ≡ outcome_number (outcome_says m.answer) → r ≡ beside_of n 0 m.controller → CreatedAs (making_in profile channels d q) r
+    → CreatedIn told (read channels) c p m → n ≡ outcome_number (said m.answer) → r ≡ beside_of n 0 m.controller → CreatedAs (making_in profile channels d q) r
 created_in {told = told} channels {d = d} {q = q} m {r = r} fits same e f h number is =
     subst (λ (x : Profile). CreatedAs (making_in x channels d q) r) same (created m number is (made_at (λ (x : Making.Making). Making.CreatedAs x m) told channels fits e f h))
 
 -- ---- a frame
 
-not_accepted : {near : _} {n : ℕ} {X : Type 0} → analysis_says (Analysis.Accepted near) ≡ refusal n → X
+not_accepted : {near : _} {n : ℕ} {X : Type 0} → analysis_says (Ok near) ≡ refusal n → X
 not_accepted e = absurd (let z : ◌≡◌ {A = ℕ} 0 1 = cc in omega arith)
 
-refused_same : (a : Analysis) {n : ℕ} {X : Type 0} → analysis_says a ≡ refusal n → ((cause : Refusal) → a ≡ Analysis.Refused cause → X) → X
-refused_same (Analysis.Accepted near) e f = not_accepted e
-refused_same (Analysis.Refused cause) e f = f cause refl
+refused_same : (a : Result Bool Refusal) {n : ℕ} {X : Type 0} → analysis_says a ≡ refusal n → ((cause : Refusal) → a ≡ Err cause → X) → X
+refused_same (Ok near) e f = not_accepted e
+refused_same (Err cause) e f = f cause refl
 
 pub framed : {r : Agc2Controller} {most : Limits} {s c : InputVolumeController} {volumes : List ℤ} {samples : ℕ} {lent : List Float} (a : Analyzed) {n : FrameNumbers} → c ≡ s → n ≡ frame_numbers (analysis_says a.answer) → r ≡ beside_of n.refusal n.near a.controller
     → Calls.AnalyzedEachOf most c volumes samples lent a → AnalyzedEachOf most s volumes samples lent r
@@ -104,17 +99,6 @@ framed {r} {most} {s} {c} {volumes} {samples} {lent} a {n} w f e h =
       becomes = becomes n.refusal n.near a.controller h.does.good h.does.view;
       same = λ k t. back n.refusal n.near a.controller ∙ refused_same a.answer (h.does.reply ∙ t) h.same;
     }))
-
--- one volume, as the machine reads it back, at the limits that were made
-pub gives_all : {made most : Limits} {given : GivenVolumes} (volume : ℤ) → SFits w32 volume → made ≡ most → GivesAll made (to_z w32 (of_z w32 volume)) given → GivesAll most volume given
-gives_all {made} {most} {given} volume fits e gives = subst (λ (limits : Limits). GivesAll limits volume given) e (subst (λ (v : ℤ). GivesAll made v given) (to_z-of_z w32 volume fits) gives)
-
--- through the entry that the volumes were given to
-pub given_at : {most : Limits} {volumes : ℕ → List ℤ} {given : GivenVolumes} {self : InputVolumeController} {samples : ℕ} {lent : List Float} {r : Agc2Controller} → GivesWithin most volumes given
-    → AnalyzedGivenOf self given samples lent r → AnalyzedEachOf most self (volumes self.control.channels.count) samples lent r
-given_at {most} {volumes} {given} {self} {samples} {lent} {r} w e =
-    let count = self.control.channels.count in
-    subst (λ (limits : Limits). AnalyzedEachOf limits self (volumes count) samples lent r) w.within (e (volumes count) (w.gives count))
 
 -- ---- a recommendation
 

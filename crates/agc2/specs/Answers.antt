@@ -1,13 +1,10 @@
 -- Document 01's answers in numbers: 0 or the refusal's number, with the values beside it, and 0 where there is none. Definitions only.
-use Rattle.std.specs.Prelude.{ℕ, zero, suc, pos, Float}
-use Rattle.std.proofs.Math.Option.{Option, some}
+use Rattle.std.specs.Prelude.{ℕ, zero, suc, pos, Float, None, Some, Option}
 use Rattle.std.specs.Float.{binary32}
 use Rattle.std.specs.Float.Ieee.{of_bits}
 use Rattle.numbers.specs.Flag.{flag_of}
 use Rattle.numbers.specs.Said.{Said, accepted, refused}
 use Rattle.clipping_predictor_level_buffer.specs.declared.level.Level.{Level}
-use Rattle.mono_input_volume_controller.specs.declared.speech_level.SpeechLevel.{SpeechLevel}
-use Rattle.mono_input_volume_controller.specs.declared.speech_level.SpeechLevel.TheVariants.{Absent, Dbfs}
 use Rattle.input_volume_controller.specs.Reply.{Reply, mark, refusal, volume, none, done}
 use Rattle.agc2.specs.declared.answers.Agc2Record.{Agc2Record}
 use Rattle.agc2.specs.declared.answers.Agc2Metrics.{Agc2Metrics}
@@ -36,8 +33,8 @@ volume_numbers done = record { present = 0; volume = pos 0 }
 
 -- a stored record or none
 abbrev pub record_of : Option Level → Agc2Record
-record_of (some l) = record { present = 1; average = l.average; max = l.max; clipped = l.clipped }
-record_of Option.none = record { present = 0; average = of_bits binary32 0; max = of_bits binary32 0; clipped = 0 }
+record_of (Some l) = record { present = 1; average = l.average; max = l.max; clipped = l.clipped }
+record_of None = record { present = 0; average = of_bits binary32 0; max = of_bits binary32 0; clipped = 0 }
 
 -- no metrics, with a refusal's number or 0
 abbrev pub no_metrics : ℕ → Agc2Metrics
@@ -45,11 +42,11 @@ no_metrics number = record { refusal = number; present = 0; average = of_bits bi
 
 -- metrics, none, or a refusal
 abbrev pub metrics_of : Said (Option Level) → Agc2Metrics
-metrics_of (accepted (some l)) = record { refusal = 0; present = 1; average = l.average; max = l.max; clipped = l.clipped }
-metrics_of (accepted Option.none) = no_metrics 0
+metrics_of (accepted (Some l)) = record { refusal = 0; present = 1; average = l.average; max = l.max; clipped = l.clipped }
+metrics_of (accepted None) = no_metrics 0
 metrics_of (refused number) = no_metrics number
 
 -- "the speech level is either absent or a float": absent at 0
-unfoldable pub speech_level_of : ℕ → Float → SpeechLevel
-speech_level_of zero dbfs = Absent
-speech_level_of (suc n) dbfs = Dbfs dbfs
+unfoldable pub speech_level_of : ℕ → Float → Option Float
+speech_level_of zero dbfs = None
+speech_level_of (suc n) dbfs = Some dbfs

@@ -1,11 +1,10 @@
 -- What the exported calls hand back: the state that the definition of a call says, and its reply in numbers. Definitions only.
-use Rattle.std.specs.Prelude.{◌≡◌, List, ℕ, ℤ, pos, Float}
-use Rattle.numbers.specs.Said.{outcome_says}
+use Rattle.std.specs.Prelude.{◌≡◌, List, ℕ, ℤ, pos, Float, Option}
+use Rattle.numbers.specs.Said.{said}
 use Rattle.clipping_predictor.specs.declared.settings.ClippingPredictorConfig.{ClippingPredictorConfig}
 use Rattle.mono_input_volume_controller.specs.declared.config.Config.{Config}
 use Rattle.mono_input_volume_controller.specs.declared.profile.Profile.{Profile}
 use Rattle.mono_input_volume_controller.specs.declared.profile.Profile.TheVariants.{Plain}
-use Rattle.mono_input_volume_controller.specs.declared.speech_level.SpeechLevel.{SpeechLevel}
 use Rattle.input_volume_controller.specs.declared.limits.Limits.{Limits}
 use Rattle.input_volume_controller.specs.declared.volume_control.VolumeControl.{VolumeControl}
 use Rattle.input_volume_controller.specs.declared.InputVolumeController.{InputVolumeController}
@@ -18,9 +17,9 @@ use Rattle.input_volume_controller.specs.Reply.{refusal as refused}
 use Rattle.input_volume_controller.specs.Calls.{Call, frame, recommendation, step, Typed, ControlDoes}
 use Rattle.agc2.specs.declared.answers.Agc2Controller.{Agc2Controller}
 use Rattle.agc2.specs.declared.answers.Agc2Control.{Agc2Control}
-use Rattle.agc2.specs.declared.given.GivenVolumes.{GivenVolumes}
+use Rattle.agc2.specs.declared.given.Volumes.{Volumes}
 use Rattle.agc2.specs.Whole.{whole_of}
-use Rattle.agc2.specs.Given.{Gives}
+use Rattle.agc2.specs.Given.{volumes_for}
 use Rattle.agc2.specs.Answers.{outcome_number, frame_numbers, volume_numbers}
 
 -- no recommendation has been answered since
@@ -30,7 +29,7 @@ pub record Unanswered (c : Agc2Control) : Type 0 where
 
 -- a making
 pub record CreatedAs (making : Making) (r : Agc2Controller) : Type 0 where
-  pub refusal : r.refusal ≡ outcome_number (outcome_says making.answer)
+  pub refusal : r.refusal ≡ outcome_number (said making.answer)
   pub near : r.near ≡ 0
   pub unanswered : Unanswered r.control
   pub becomes : Becomes making.controller (whole_of r)
@@ -61,9 +60,9 @@ AnalyzedEachOf most self volumes samples lent r = FramedAs self (frame most volu
 abbrev pub AnalyzedOf : Limits → InputVolumeController → ℤ → ℕ → List Float → Agc2Controller → Type 0
 AnalyzedOf most self volume samples lent r = AnalyzedEachOf most self (equal_volumes volume self.control.channels.count) samples lent r
 
--- with volumes that are not yet counted, through the entry that they were given to
-abbrev pub AnalyzedGivenOf : InputVolumeController → GivenVolumes → ℕ → List Float → Agc2Controller → Type 0
-AnalyzedGivenOf self given samples lent r = (volumes : List ℤ) → Gives self.control.channels.count volumes given → AnalyzedEachOf given.most self volumes samples lent r
+-- with volumes that are not yet counted
+abbrev pub AnalyzedGivenOf : Limits → InputVolumeController → Volumes → ℕ → List Float → Agc2Controller → Type 0
+AnalyzedGivenOf most self volumes samples lent r = AnalyzedEachOf most self (volumes_for self.control.channels.count volumes) samples lent r
 
 -- a recommendation, whatever predictor stands beside the control
 pub record RecommendedAs (self : VolumeControl) (call : Call) (r : Agc2Control) : Type 0 where
@@ -72,5 +71,5 @@ pub record RecommendedAs (self : VolumeControl) (call : Call) (r : Agc2Control) 
   pub present : r.present ≡ (volume_numbers says).present
   pub volume : r.volume ≡ (volume_numbers says).volume
 
-abbrev pub RecommendedOf : VolumeControl → Float → SpeechLevel → Agc2Control → Type 0
+abbrev pub RecommendedOf : VolumeControl → Float → Option Float → Agc2Control → Type 0
 RecommendedOf self probability level r = RecommendedAs self (recommendation probability level) r

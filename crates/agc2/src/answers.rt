@@ -1,17 +1,12 @@
 // What the calls say, in numbers, with the state that each hands back.
 ghost use Rattle.std.specs.Prelude.{◌≡◌};
+ghost use Rattle.numbers.specs.Said.{said, accepted};
 ghost use Rattle.input_volume_controller.specs.Reply.{analysis_says, recommendation_says};
-ghost use Rattle.numbers.specs.Said.{outcome_says};
-ghost use Rattle.clipping_predictor_level_buffer.specs.Ring.{stored_says};
-ghost use Rattle.clipping_predictor_level_buffer.specs.Metrics.{metrics_says};
 ghost use Rattle.agc2.specs.Answers.{outcome_number, frame_numbers, volume_numbers, record_of, metrics_of, speech_level_of};
 
-use clipping_predictor_level_buffer::{Metrics, Stored};
+use clipping_predictor_level_buffer::level::Level;
 use input_volume_controller::plain::{PlainControl, PlainPredictor};
-use input_volume_controller::{Analysis, Recommendation};
-use mono_input_volume_controller::speech_level::SpeechLevel;
-use numbers::flag::flag_of;
-use numbers::refusal::Outcome;
+use numbers::refusal::Refusal;
 
 // All of a controller but its predictor, with the answer to its last recommendation: 1 and the volume, or 0 and 0 for none.
 #[repr(C)]
@@ -69,53 +64,53 @@ pub struct VolumeNumbers {
 
 // Out of line for the stack's sake.
 #[inline(never)]
-pub fn outcome_number(answer: Outcome) -> u32
-    ensures { result ≡ outcome_number (outcome_says answer) }
+pub fn outcome_number(answer: Result<(), Refusal>) -> u32
+    ensures { result ≡ outcome_number (said answer) }
 {
     match answer {
-        Outcome::Accepted => 0,
-        Outcome::Refused(cause) => numbers::refusal::number(cause),
+        Ok(()) => 0,
+        Err(cause) => cause.number(),
     }
 }
 
-pub fn frame_numbers(answer: Analysis) -> FrameNumbers
+pub fn frame_numbers(answer: Result<bool, Refusal>) -> FrameNumbers
     ensures { result ≡ frame_numbers (analysis_says answer) }
 {
     match answer {
-        Analysis::Accepted(near) => FrameNumbers {
+        Ok(near) => FrameNumbers {
             refusal: 0,
-            near: flag_of(near),
+            near: u32::from(near),
         },
-        Analysis::Refused(cause) => FrameNumbers {
-            refusal: numbers::refusal::number(cause),
+        Err(cause) => FrameNumbers {
+            refusal: cause.number(),
             near: 0,
         },
     }
 }
 
-pub fn volume_numbers(answer: Recommendation) -> VolumeNumbers
+pub fn volume_numbers(answer: Option<i32>) -> VolumeNumbers
     ensures { result ≡ volume_numbers (recommendation_says answer) }
 {
     match answer {
-        Recommendation::Volume(volume) => VolumeNumbers { present: 1, volume },
-        Recommendation::Nothing => VolumeNumbers {
+        Some(volume) => VolumeNumbers { present: 1, volume },
+        None => VolumeNumbers {
             present: 0,
             volume: 0,
         },
     }
 }
 
-pub fn record_of(stored: Stored) -> Agc2Record
-    ensures { result ≡ record_of (stored_says stored) }
+pub fn record_of(stored: Option<Level>) -> Agc2Record
+    ensures { result ≡ record_of stored }
 {
     match stored {
-        Stored::Record(level) => Agc2Record {
+        Some(level) => Agc2Record {
             present: 1,
             average: level.average,
             max: level.max,
             clipped: level.clipped,
         },
-        Stored::Missing => Agc2Record {
+        None => Agc2Record {
             present: 0,
             average: 0.0,
             max: 0.0,
@@ -124,26 +119,35 @@ pub fn record_of(stored: Stored) -> Agc2Record
     }
 }
 
-pub fn metrics_of(metrics: Metrics) -> Agc2Metrics
-    ensures { result ≡ metrics_of (metrics_says metrics) }
+// Metrics that are not refused.
+fn found_metrics(found: Option<Level>) -> Agc2Metrics
+    ensures { result ≡ metrics_of (accepted found) }
 {
-    match metrics {
-        Metrics::Found(level) => Agc2Metrics {
+    match found {
+        Some(level) => Agc2Metrics {
             refusal: 0,
             present: 1,
             average: level.average,
             max: level.max,
             clipped: level.clipped,
         },
-        Metrics::Missing => Agc2Metrics {
+        None => Agc2Metrics {
             refusal: 0,
             present: 0,
             average: 0.0,
             max: 0.0,
             clipped: 0,
         },
-        Metrics::Refused(cause) => Agc2Metrics {
-            refusal: numbers::refusal::number(cause),
+    }
+}
+
+pub fn metrics_of(metrics: Result<Option<Level>, Refusal>) -> Agc2Metrics
+    ensures { result ≡ metrics_of (said metrics) }
+{
+    match metrics {
+        Ok(found) => found_metrics(found),
+        Err(cause) => Agc2Metrics {
+            refusal: cause.number(),
             present: 0,
             average: 0.0,
             max: 0.0,
@@ -153,11 +157,11 @@ pub fn metrics_of(metrics: Metrics) -> Agc2Metrics
 }
 
 // A speech level, or none where its flag is 0.
-pub fn speech_level_of(present: u32, dbfs: f32) -> SpeechLevel
+pub fn speech_level_of(present: u32, dbfs: f32) -> Option<f32>
     ensures { result ≡ speech_level_of present dbfs }
 {
     if present == 0 {
-        return SpeechLevel::Absent;
+        return None;
     }
-    SpeechLevel::Dbfs(dbfs)
+    Some(dbfs)
 }

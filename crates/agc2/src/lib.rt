@@ -4,8 +4,8 @@
 
 ghost use Rattle.std.specs.Prelude.{◌≡◌, [], pos, get_or};
 ghost use Rattle.numbers.specs.Flag.{is_set};
-ghost use Rattle.clipping_predictor_level_buffer.specs.Ring.{stored_says, stored_at};
-ghost use Rattle.clipping_predictor_level_buffer.specs.Metrics.{metrics_says};
+ghost use Rattle.numbers.specs.Said.{said};
+ghost use Rattle.clipping_predictor_level_buffer.specs.Ring.{stored_at};
 ghost use Rattle.input_volume_controller.specs.Controller.{Good, view_of};
 ghost use Rattle.input_volume_controller.specs.Control.{control_of};
 ghost use Rattle.input_volume_controller.specs.Control.{Good as GoodControl};
@@ -20,12 +20,12 @@ ghost use Rattle.agc2.specs.Whole.{whole_of, beside_of};
 ghost use Rattle.agc2.specs.Calls.{CreatedIn, CreatedWith, CreatedOf, AnalyzedGivenOf, AnalyzedOf, AnalyzedEachOf, RecommendedOf};
 
 use crate::answers::{Agc2Control, Agc2Controller, Agc2Metrics, Agc2Record};
-use crate::given::GivenVolumes;
+use crate::given::Volumes;
 use crate::settings::{Agc2Config, Agc2PredictorConfig};
-use input_volume_controller::InputVolumeController;
 use input_volume_controller::plain::{
     PlainControl, plain_control, plain_predictor, whole_control, whole_predictor,
 };
+use input_volume_controller::{InputVolumeController, Limits, PLAIN, SPOTTER};
 
 pub mod answers;
 mod given;
@@ -123,7 +123,7 @@ pub fn agc2_handle_capture_output_used_change_by_value(
     requires { GoodControl (whole_control control) }
     ensures { ControlDoes (whole_control control) (capture_switch (is_set capture_output_used)) done (whole_control result) }
 {
-    let on = numbers::flag::is_set(capture_output_used);
+    let on = capture_output_used != 0;
     plain_control(whole_control(control).handle_capture_output_used_change(on))
 }
 
@@ -131,16 +131,16 @@ pub fn agc2_handle_capture_output_used_change_by_value(
 #[inline(always)]
 fn analyzed(
     before: Agc2Controller,
-    given: GivenVolumes,
+    most: Limits,
+    volumes: Volumes<'_>,
     samples_per_channel: usize,
     samples: &[f32],
 ) -> Agc2Controller
     requires { Good (whole_of before) }
-    ensures { AnalyzedGivenOf (whole_of before) given samples_per_channel samples.now result }
+    ensures { AnalyzedGivenOf most (whole_of before) volumes.entry samples_per_channel samples.now result }
 {
     let c = whole(before);
-    let most = given.most;
-    let set = given::set_for(given, c.control.channels.count);
+    let set = given::set_for(volumes, c.control.channels.count);
     let analyzed = c.analyze_volumes(most, set, samples_per_channel, samples);
     let answer = analyzed.answer;
     let handed = analyzed.controller;
@@ -151,14 +151,15 @@ fn analyzed(
 // The same in the controller's place. Every exported frame comes here by the controller's address: each pass by value would copy its rings.
 fn analyzed_into(
     controller: &mut Agc2Controller,
-    given: GivenVolumes,
+    most: Limits,
+    volumes: Volumes<'_>,
     samples_per_channel: usize,
     samples: &[f32],
 )
     requires { Good (whole_of controller.old) }
-    ensures { AnalyzedGivenOf (whole_of controller.old) given samples_per_channel samples.now controller.new }
+    ensures { AnalyzedGivenOf most (whole_of controller.old) volumes.entry samples_per_channel samples.now controller.new }
 {
-    *controller = analyzed(*controller, given, samples_per_channel, samples);
+    *controller = analyzed(*controller, most, volumes, samples_per_channel, samples);
 }
 
 // With one volume for all channels. Causes 8 and 9.
@@ -173,7 +174,8 @@ pub fn agc2_analyze_input_audio_into(
 {
     analyzed_into(
         controller,
-        given::one_volume(applied_input_volume),
+        PLAIN,
+        Volumes::One(applied_input_volume),
         samples_per_channel,
         samples,
     )
@@ -191,7 +193,8 @@ pub fn agc2_analyze_input_audio_each_into(
 {
     analyzed_into(
         controller,
-        given::each_volume(volumes),
+        PLAIN,
+        Volumes::Each(volumes),
         samples_per_channel,
         samples,
     )
@@ -209,7 +212,8 @@ pub fn agc2_spotter_analyze_input_audio_into(
 {
     analyzed_into(
         controller,
-        given::spotter_one_volume(applied_input_volume),
+        SPOTTER,
+        Volumes::One(applied_input_volume),
         samples_per_channel,
         samples,
     )
@@ -227,7 +231,8 @@ pub fn agc2_spotter_analyze_input_audio_each_into(
 {
     analyzed_into(
         controller,
-        given::spotter_each_volume(volumes),
+        SPOTTER,
+        Volumes::Each(volumes),
         samples_per_channel,
         samples,
     )
@@ -288,7 +293,7 @@ pub fn agc2_stored_record_by_value(
     i: usize,
 ) -> Agc2Record
     requires { Good (whole_of controller) }
-    ensures { result ≡ record_of (stored_says (stored_at (get_or (view_of (whole_of controller)).predictor.rings channel []) i)) }
+    ensures { result ≡ record_of (stored_at (get_or (view_of (whole_of controller)).predictor.rings channel []) i) }
 {
     answers::record_of(whole(controller).stored_record(channel, i))
 }
@@ -301,7 +306,7 @@ pub fn agc2_compute_partial_metrics_by_value(
     num_items: i32,
 ) -> Agc2Metrics
     requires { Good (whole_of controller) }
-    ensures { result ≡ metrics_of (metrics_says (channel_metrics (view_of (whole_of controller)).predictor channel delay num_items)) }
+    ensures { result ≡ metrics_of (said (channel_metrics (view_of (whole_of controller)).predictor channel delay num_items)) }
 {
     answers::metrics_of(whole(controller).compute_partial_metrics(channel, delay, num_items))
 }

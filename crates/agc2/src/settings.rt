@@ -8,7 +8,6 @@ use clipping_predictor::settings::ClippingPredictorConfig;
 use input_volume_controller::plain::{mode_number, mode_of};
 use mono_input_volume_controller::config::Config;
 use mono_input_volume_controller::profile::Profile;
-use numbers::flag::{flag_of, is_set};
 
 // Any bits. The predictor is on unless its number is 0.
 #[repr(C)]
@@ -48,7 +47,7 @@ pub fn config_of(c: Agc2Config) -> Config
         clipped_level_step: c.clipped_level_step,
         clipped_ratio_threshold: c.clipped_ratio_threshold,
         clipped_wait_frames: c.clipped_wait_frames,
-        enable_clipping_predictor: is_set(c.enable_clipping_predictor),
+        enable_clipping_predictor: c.enable_clipping_predictor != 0,
         target_range_max_dbfs: c.target_range_max_dbfs,
         target_range_min_dbfs: c.target_range_min_dbfs,
         update_input_volume_wait_frames: c.update_input_volume_wait_frames,
@@ -66,7 +65,7 @@ fn in_numbers(c: Config) -> Agc2Config
         clipped_level_step: c.clipped_level_step,
         clipped_ratio_threshold: c.clipped_ratio_threshold,
         clipped_wait_frames: c.clipped_wait_frames,
-        enable_clipping_predictor: flag_of(c.enable_clipping_predictor),
+        enable_clipping_predictor: u32::from(c.enable_clipping_predictor),
         target_range_max_dbfs: c.target_range_max_dbfs,
         target_range_min_dbfs: c.target_range_min_dbfs,
         update_input_volume_wait_frames: c.update_input_volume_wait_frames,
@@ -79,7 +78,7 @@ fn in_numbers(c: Config) -> Agc2Config
 pub fn agc2_default_config() -> Agc2Config
     ensures { result ≡ in_numbers defaults }
 {
-    in_numbers(mono_input_volume_controller::config::default_config())
+    in_numbers(Config::default())
 }
 
 pub fn predictor_config_of(c: Agc2PredictorConfig) -> ClippingPredictorConfig
@@ -114,10 +113,10 @@ fn predictor_in_numbers(c: ClippingPredictorConfig) -> Agc2PredictorConfig
 pub fn profile_of(number: u32) -> Profile
     ensures { result ≡ profile_of number }
 {
-    if is_set(number) {
-        return Profile::Classroom;
+    if number == 0 {
+        return Profile::Plain;
     }
-    Profile::Plain
+    Profile::Classroom
 }
 
 // The base's predictor, which `agc2_new_by_value` takes.

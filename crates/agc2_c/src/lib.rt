@@ -4,8 +4,8 @@
 ghost use Rattle.std.specs.Prelude.{◌≡◌, [], pos, get_or};
 ghost use Rattle.agc2.specs.Layout.{layout};
 ghost use Rattle.numbers.specs.Flag.{is_set};
-ghost use Rattle.clipping_predictor_level_buffer.specs.Ring.{stored_says, stored_at};
-ghost use Rattle.clipping_predictor_level_buffer.specs.Metrics.{metrics_says};
+ghost use Rattle.numbers.specs.Said.{said};
+ghost use Rattle.clipping_predictor_level_buffer.specs.Ring.{stored_at};
 ghost use Rattle.input_volume_controller.specs.Controller.{Good, view_of, base_predictor};
 ghost use Rattle.input_volume_controller.specs.Control.{control_of, Good as GoodControl};
 ghost use Rattle.input_volume_controller.specs.Limits.{plain_limits, spotter_limits};
@@ -192,7 +192,7 @@ pub extern "C" fn agc2_stored_record_by_value(
     i: usize,
 ) -> Agc2Record
     requires { Good (whole_of controller) }
-    ensures { result ≡ record_of (stored_says (stored_at (get_or (view_of (whole_of controller)).predictor.rings channel []) i)) }
+    ensures { result ≡ record_of (stored_at (get_or (view_of (whole_of controller)).predictor.rings channel []) i) }
 {
     agc2::agc2_stored_record_by_value(controller, channel, i)
 }
@@ -206,7 +206,7 @@ pub extern "C" fn agc2_compute_partial_metrics_by_value(
     num_items: i32,
 ) -> Agc2Metrics
     requires { Good (whole_of controller) }
-    ensures { result ≡ metrics_of (metrics_says (channel_metrics (view_of (whole_of controller)).predictor channel delay num_items)) }
+    ensures { result ≡ metrics_of (said (channel_metrics (view_of (whole_of controller)).predictor channel delay num_items)) }
 {
     agc2::agc2_compute_partial_metrics_by_value(controller, channel, delay, num_items)
 }

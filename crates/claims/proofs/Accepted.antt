@@ -6,8 +6,8 @@ use Prim.Native.Nat.{ℕ}
 use lib.Dec.{ltb}
 use lib.Ieee.{Float, lt}
 use lib.ListN.{length}
-use Rattle.numbers.specs.declared.refusal.Outcome.{Outcome}
-use Rattle.numbers.specs.declared.refusal.Outcome.TheVariants.{Accepted, Refused}
+use Rattle.std.specs.Prelude.{Err, Ok, Result}
+use Rattle.numbers.specs.declared.refusal.Refusal.{Refusal}
 use Rattle.clipping_predictor.specs.Predictor.{entered_if}
 use Rattle.input_volume_controller.specs.ClippedRatio.{clipped_ratio_of}
 use Rattle.input_volume_controller.specs.Controller.{Controller}
@@ -27,9 +27,9 @@ marked_used true samples lent c =
     (record { control = c.control; predictor = entered_if true samples lent c.predictor })
 marked_used false samples lent c = refl
 
-refused_if : (o : Outcome) (volumes : List ℕ) (samples : ℕ) (lent : List Float) (c : Controller) → is_refusal (unless_refused o volumes samples lent c).reply ≡ not (is_taken o)
-refused_if (Refused cause) volumes samples lent c = refl
-refused_if Accepted volumes samples lent c = marked_used c.control.used samples lent (with_volumes_applied volumes c)
+refused_if : (o : Result (Unit {0}) Refusal) (volumes : List ℕ) (samples : ℕ) (lent : List Float) (c : Controller) → is_refusal (unless_refused o volumes samples lent c).reply ≡ not (is_taken o)
+refused_if (Err cause) volumes samples lent c = refl
+refused_if (Ok tt) volumes samples lent c = marked_used c.control.used samples lent (with_volumes_applied volumes c)
 
 -- THE CLAIM
 pub accepted_is_not_refused : AcceptedIsNotRefused

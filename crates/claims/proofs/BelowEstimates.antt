@@ -2,21 +2,19 @@
 use mathlib.Core.Path.{◌≡◌, refl, sym, ap, ◌∙◌}
 use mathlib.Core.Bool.{Bool, true, false, not, ◌&&◌, ◌||◌}
 use mathlib.Core.List.{List, [], ◌∷◌}
-use mathlib.Core.Option.{none}
 use Prim.Native.Nat.{ℕ, zero, suc, ◌-◌, ◌≤◌}
 use native.Mathlib.Omega.{arith}
 use lib.Dec.{leb, ltb}
 use lib.IntN.{ℤ, pos, negsuc}
 use lib.Signed.{lt_z, le_z}
 use lib.ListN.{get_or}
-use Rattle.numbers.specs.declared.natural.Natural.{Natural}
-use Rattle.numbers.specs.declared.natural.Natural.TheVariants.{Number, Outside}
+use Rattle.std.specs.Prelude.{None, Option, Some}
 use Rattle.numbers.specs.Natural.{within_of}
-use Rattle.numbers.specs.Said.{refusal_in}
+use Rattle.numbers.specs.Said.{refusal_in, said}
 use Rattle.clipping_predictor.specs.Turned.{estimated, is_near}
 use Rattle.clipping_predictor.specs.Estimate.{estimate_tree}
 use Rattle.clipping_predictor.specs.Predictor.{Predictor}
-use Rattle.clipping_predictor.specs.EstimateCall.{drop_or, given_if, given, arguments_of, estimate_says, estimate_of}
+use Rattle.clipping_predictor.specs.EstimateCall.{drop_or, given_if, given, arguments_of, estimate_of}
 use Rattle.clipping_predictor.specs.declared.modes.Asked.{Asked}
 use Rattle.claims.specs.Causes.{Cause, first_of, outside}
 use Rattle.claims.specs.RefusedBelow.{estimate_causes}
@@ -25,26 +23,22 @@ use Rattle.claims.proofs.Causes.{above_is, or_assoc, is_outside, within_is}
 abbrev eight_ten : Bool → Bool → List Cause
 eight_ten a b = record { number = 8; holds = a } ∷ record { number = 10; holds = b } ∷ []
 
-drop_accepted : (n : ℕ) (near : Bool) → refusal_in (estimate_says (drop_or n near)) ≡ none
-drop_accepted zero near = refl
-drop_accepted (suc n) near = refl
-
-given_first : (p : Predictor) (a b : Bool) (channel : ℕ) (q : Asked) → refusal_in (estimate_says (estimate_of p (given_if (a && b) channel q))) ≡ first_of (eight_ten false (not a || not b))
+given_first : (p : Predictor) (a b : Bool) (channel : ℕ) (q : Asked) → refusal_in (said (estimate_of p (given_if (a && b) channel q))) ≡ first_of (eight_ten false (not a || not b))
 unfolding estimate_of
-given_first p true true channel q = let e = estimated (estimate_tree p.settings (get_or p.rings channel []) q) in drop_accepted e.drop (is_near e)
+given_first p true true channel q = refl
 given_first p true false channel q = refl
 given_first p false b channel q = refl
 
 module _ (p : Predictor) (level min max : ℤ) where
-  estimate_given : (l ch st mn mx : Natural) → within_of 0 255 level ≡ l → within_of 0 255 min ≡ mn → within_of 0 255 max ≡ mx
-      → refusal_in (estimate_says (estimate_of p (given l ch st mn mx))) ≡ first_of (eight_ten (is_outside l) (is_outside ch || (is_outside st || (is_outside mn || (is_outside mx || (lt_z max min || lt_z max level))))))
+  estimate_given : (l ch st mn mx : Option ℕ) → within_of 0 255 level ≡ l → within_of 0 255 min ≡ mn → within_of 0 255 max ≡ mx
+      → refusal_in (said (estimate_of p (given l ch st mn mx))) ≡ first_of (eight_ten (is_outside l) (is_outside ch || (is_outside st || (is_outside mn || (is_outside mx || (lt_z max min || lt_z max level))))))
   unfolding estimate_of given
-  estimate_given Outside ch st mn mx e f g = refl
-  estimate_given (Number l) Outside st mn mx e f g = refl
-  estimate_given (Number l) (Number ch) Outside mn mx e f g = refl
-  estimate_given (Number l) (Number ch) (Number st) Outside mx e f g = refl
-  estimate_given (Number l) (Number ch) (Number st) (Number mn) Outside e f g = refl
-  estimate_given (Number l) (Number ch) (Number st) (Number mn) (Number mx) e f g =
+  estimate_given None ch st mn mx e f g = refl
+  estimate_given (Some l) None st mn mx e f g = refl
+  estimate_given (Some l) (Some ch) None mn mx e f g = refl
+  estimate_given (Some l) (Some ch) (Some st) None mx e f g = refl
+  estimate_given (Some l) (Some ch) (Some st) (Some mn) None e f g = refl
+  estimate_given (Some l) (Some ch) (Some st) (Some mn) (Some mx) e f g =
       given_first p (leb mn mx) (leb l mx) ch _
       ∙ (λ i. first_of (eight_ten false (sym (above_is max min mx mn g f) i || sym (above_is max level mx l g e) i)))
 
@@ -55,7 +49,7 @@ unknown_is (suc n) (pos c) h = let e : n ≡ suc n - 1 = omega arith in ap (λ (
 unknown_is (suc n) (negsuc c) h = refl
 
 pub estimate_first : (p : Predictor) (channels : ℕ) (channel level step min max : ℤ) → 1 ≤ channels
-    → refusal_in (estimate_says (estimate_of p (arguments_of channels channel level step min max))) ≡ first_of (estimate_causes channels channel level step min max)
+    → refusal_in (said (estimate_of p (arguments_of channels channel level step min max))) ≡ first_of (estimate_causes channels channel level step min max)
 unfolding arguments_of
 estimate_first p channels channel level step min max h =
     let rest = outside (pos 1) (pos 255) step || (outside (pos 0) (pos 255) min || (outside (pos 0) (pos 255) max || (lt_z max min || lt_z max level))) in

@@ -2,19 +2,17 @@
 use mathlib.Core.Path.{◌≡◌, refl, sym, ap, ◌∙◌}
 use mathlib.Core.Bool.{Bool, true, false, not, ◌||◌}
 use mathlib.Core.List.{List, [], ◌∷◌}
-use mathlib.Core.Option.{some}
 use Prim.Native.Nat.{ℕ, ◌+◌}
 use native.Mathlib.Omega.{arith}
 use lib.Dec.{leb, ltb, leb-suc-suc}
 use lib.IntN.{ℤ, pos, negsuc, nat_abs}
-use Rattle.numbers.specs.declared.natural.Natural.{Natural}
-use Rattle.numbers.specs.declared.natural.Natural.TheVariants.{Number, Outside}
+use Rattle.std.specs.Prelude.{Err, None, Ok, Option, Result, Some}
+use Rattle.numbers.specs.declared.refusal.Refusal.{Refusal}
 use Rattle.numbers.specs.Natural.{number_if, within_of, at_least_of}
-use Rattle.numbers.specs.Said.{refused, refusal_in, outcome_says}
+use Rattle.numbers.specs.Said.{refused, refusal_in, said}
 use Rattle.clipping_predictor.specs.declared.settings.ClippingPredictorConfig.{ClippingPredictorConfig}
 use Rattle.clipping_predictor.specs.declared.settings.Settings.{Settings}
-use Rattle.clipping_predictor.specs.declared.settings.Checked.{Checked}
-use Rattle.clipping_predictor.specs.Settings.{max_level, levels_in_range, checked_says, checked_if, checked, settings_of}
+use Rattle.clipping_predictor.specs.Settings.{max_level, levels_in_range, checked_if, checked, settings_of}
 use Rattle.clipping_predictor.specs.Predictor.{max_channels, unmade_settings, empty_predictor, made_of, making_of}
 use Rattle.claims.specs.Causes.{Cause, first_if, first_of, outside, windows_out, sum_out, levels_out, predictor_faults}
 use Rattle.claims.specs.RefusedBelow.{predictor_causes}
@@ -36,7 +34,7 @@ levels_is threshold margin = (λ i. level_is threshold i || level_is margin i) �
 abbrev of_settings : Bool → Bool → Bool → List Cause
 of_settings a b c = record { number = 7; holds = a } ∷ record { number = 14; holds = b } ∷ record { number = 15; holds = c } ∷ []
 
-checked_first : (above room levels : Bool) (s : Settings) → refusal_in (checked_says (checked_if above room levels s)) ≡ first_of (of_settings (not above) (not room) (not levels))
+checked_first : (above room levels : Bool) (s : Settings) → refusal_in (said (checked_if above room levels s)) ≡ first_of (of_settings (not above) (not room) (not levels))
 checked_first false room levels s = refl
 checked_first true false levels s = refl
 checked_first true true false s = refl
@@ -55,26 +53,26 @@ module _ (c : ClippingPredictorConfig) where
   in_range = levels_in_range c.clipping_threshold c.crest_factor_margin
 
   -- a window, a reference or a delay that is too small by itself
-  second_out : (a : Bool) (w : ℕ) (d : Natural) → refusal_in (checked_says (checked (number_if a w) Outside d c)) ≡ some 7
+  second_out : (a : Bool) (w : ℕ) (d : Option ℕ) → refusal_in (said (checked (number_if a w) None d c)) ≡ Some 7
   unfolding checked
   second_out true w d = refl
   second_out false w d = refl
 
-  third_out : (a b : Bool) (w r : ℕ) → refusal_in (checked_says (checked (number_if a w) (number_if b r) Outside c)) ≡ some 7
+  third_out : (a b : Bool) (w r : ℕ) → refusal_in (said (checked (number_if a w) (number_if b r) None c)) ≡ Some 7
   unfolding checked
   third_out true true w r = refl
   third_out true false w r = refl
   third_out false b w r = refl
 
   natural_first : (w r d : ℕ) (a b e : Bool)
-      → refusal_in (checked_says (checked (number_if a w) (number_if b r) (number_if e d) c)) ≡ first_of (of_settings (not a || (not b || (not e || not (ltb w (d + r))))) (not (leb (d + r) 64)) (not in_range))
+      → refusal_in (said (checked (number_if a w) (number_if b r) (number_if e d) c)) ≡ first_of (of_settings (not a || (not b || (not e || not (ltb w (d + r))))) (not (leb (d + r) 64)) (not in_range))
   unfolding checked
   natural_first w r d true true true = checked_first (ltb w (d + r)) (leb (d + r) 64) in_range _
   natural_first w r d true true false = refl
   natural_first w r d true false e = refl
   natural_first w r d false b e = refl
 
-  windows_first : (w r d : ℤ) → refusal_in (checked_says (checked (at_least_of 1 w) (at_least_of 1 r) (at_least_of 0 d) c)) ≡ first_of (of_settings (windows_out w r d) (sum_out r d) (not in_range))
+  windows_first : (w r d : ℤ) → refusal_in (said (checked (at_least_of 1 w) (at_least_of 1 r) (at_least_of 0 d) c)) ≡ first_of (of_settings (windows_out w r d) (sum_out r d) (not in_range))
   unfolding at_least_of checked
   windows_first (negsuc w) r d = refl
   windows_first (pos w) (negsuc r) d = second_out (leb 1 w) w (at_least_of 0 d) ∙ ap (λ (t : Bool). first_of (of_settings t (sum_out (negsuc r) d) (not in_range))) (sym (or_true (ltb w 1)))
@@ -86,7 +84,7 @@ module _ (c : ClippingPredictorConfig) where
       ∙ (λ i. first_of (of_settings (sym (less_is 1 w) i || (sym (less_is 1 r) i || (sym (less_is 0 d) i || sym (at_most_is (d + r) w) i))) (sym (less_is (d + r) 64) i) (not in_range)))
 
 -- a check refuses with the first fault of the configuration
-pub faults_first : (c : ClippingPredictorConfig) → refusal_in (checked_says (settings_of c)) ≡ first_of (predictor_faults c)
+pub faults_first : (c : ClippingPredictorConfig) → refusal_in (said (settings_of c)) ≡ first_of (predictor_faults c)
 unfolding settings_of
 faults_first c =
     let w = c.window_length in
@@ -96,22 +94,22 @@ faults_first c =
 
 -- ---- the making
 
-made_first : (channels : Natural) (k : Checked) → refusal_in (outcome_says (made_of channels k).answer) ≡ first_if (is_outside channels) 1 (refusal_in (checked_says k))
+made_first : (channels : Option ℕ) (k : Result Settings Refusal) → refusal_in (said (made_of channels k).answer) ≡ first_if (is_outside channels) 1 (refusal_in (said k))
 unfolding made_of
-made_first Outside k = refl
-made_first (Number n) (Checked.Refused cause) = refl
-made_first (Number n) (Checked.InOrder s) = refl
+made_first None k = refl
+made_first (Some n) (Err cause) = refl
+made_first (Some n) (Ok s) = refl
 
-pub predictor_first : (channels : ℤ) (config : ClippingPredictorConfig) → refusal_in (outcome_says (making_of channels config).answer) ≡ first_of (predictor_causes channels config)
+pub predictor_first : (channels : ℤ) (config : ClippingPredictorConfig) → refusal_in (said (making_of channels config).answer) ≡ first_of (predictor_causes channels config)
 unfolding making_of
 predictor_first channels c = made_first (within_of 1 max_channels channels) (settings_of c) ∙ (λ i. first_if (sym (within_is 1 8 channels) i) 1 (faults_first c i))
 
-made_beside : (channels : Natural) (k : Checked) (number : ℕ) → outcome_says (made_of channels k).answer ≡ refused number → (made_of channels k).predictor ≡ empty_predictor unmade_settings 1
+made_beside : (channels : Option ℕ) (k : Result Settings Refusal) (number : ℕ) → said (made_of channels k).answer ≡ refused number → (made_of channels k).predictor ≡ empty_predictor unmade_settings 1
 unfolding made_of
-made_beside Outside k number e = refl
-made_beside (Number n) (Checked.Refused cause) number e = refl
-made_beside (Number n) (Checked.InOrder s) number e = let z : ◌≡◌ {A = ℕ} 0 1 = cc in absurd (omega arith)
+made_beside None k number e = refl
+made_beside (Some n) (Err cause) number e = refl
+made_beside (Some n) (Ok s) number e = let z : ◌≡◌ {A = ℕ} 0 1 = cc in absurd (omega arith)
 
-pub predictor_beside : (channels : ℤ) (config : ClippingPredictorConfig) (number : ℕ) → outcome_says (making_of channels config).answer ≡ refused number → (making_of channels config).predictor ≡ empty_predictor unmade_settings 1
+pub predictor_beside : (channels : ℤ) (config : ClippingPredictorConfig) (number : ℕ) → said (making_of channels config).answer ≡ refused number → (making_of channels config).predictor ≡ empty_predictor unmade_settings 1
 unfolding making_of
 predictor_beside channels config number e = made_beside (within_of 1 max_channels channels) (settings_of config) number e

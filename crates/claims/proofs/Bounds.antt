@@ -10,16 +10,13 @@ use lib.IntN.{ℤ, pos}
 use lib.Signed.{le_z_yes}
 use lib.Ieee.{Float, lt}
 use lib.ListN.{length}
-use Rattle.numbers.specs.declared.refusal.Outcome.{Outcome}
-use Rattle.numbers.specs.declared.refusal.Outcome.TheVariants.{Accepted, Refused}
+use Rattle.std.specs.Prelude.{Err, None, Ok, Option, Result, Some}
+use Rattle.numbers.specs.declared.refusal.Refusal.{Refusal}
 use Rattle.numbers.specs.Natural.{within_of}
 use Rattle.clipping_predictor.specs.Predictor.{max_channels, entered_if}
 use Rattle.clipping_predictor.specs.declared.settings.ClippingPredictorConfig.{ClippingPredictorConfig}
 use Rattle.mono_input_volume_controller.specs.declared.config.Config.{Config}
 use Rattle.mono_input_volume_controller.specs.declared.config.Settings.{Settings}
-use Rattle.mono_input_volume_controller.specs.declared.speech_level.SpeechLevel.{SpeechLevel}
-use Rattle.input_volume_controller.specs.declared.Applied.{Applied}
-use Rattle.input_volume_controller.specs.declared.Applied.TheVariants.{Nothing, Volume}
 use Rattle.mono_input_volume_controller.specs.Config.{settings_from}
 use Rattle.input_volume_controller.specs.ClippedRatio.{clipped_ratio_of}
 use Rattle.input_volume_controller.specs.Control.{Control}
@@ -58,31 +55,31 @@ used_fine true samples lent c =
     (record { control = c.control; predictor = entered_if true samples lent c.predictor })
 used_fine false samples lent c = tt
 
-frame_fine : (o : Outcome) (volumes : List ℕ) (samples : ℕ) (lent : List Float) (c : Controller) → Fine (unless_refused o volumes samples lent c).reply
-frame_fine (Refused cause) volumes samples lent c = tt
-frame_fine Accepted volumes samples lent c = used_fine c.control.used samples lent (with_volumes_applied volumes c)
+frame_fine : (o : Result (Unit {0}) Refusal) (volumes : List ℕ) (samples : ℕ) (lent : List Float) (c : Controller) → Fine (unless_refused o volumes samples lent c).reply
+frame_fine (Err cause) volumes samples lent c = tt
+frame_fine (Ok tt) volumes samples lent c = used_fine c.control.used samples lent (with_volumes_applied volumes c)
 
 -- with a volume above 0 pending, the volume that is taken is raised to the minimum
-raised_from : (a : Applied) (v least x : ℕ) → a ≡ Volume (suc v) → least ≤ raised_for a least x
+raised_from : (a : Option ℕ) (v least x : ℕ) → a ≡ Some (suc v) → least ≤ raised_for a least x
 unfolding raised_for
 raised_from a v least x e = rw e (omega arith)
 
-processed_least : (c : Control) (p : Float) (l : SpeechLevel) (v : ℕ) → c.applied ≡ Volume (suc v) → c.settings.least ≤ (process_channels p l c).volume
+processed_least : (c : Control) (p : Float) (l : Option Float) (v : ℕ) → c.applied ≡ Some (suc v) → c.settings.least ≤ (process_channels p l c).volume
 unfolding process_channels aggregated
 processed_least c p l v e = raised_from c.applied v c.settings.least _ e
 
 module _ (s : Settings) (low : s.least ≤ 255) where
   -- the volume that a recommendation takes
-  processed_most : (p : Float) (l : SpeechLevel) (c : Control) → Sound s c → (process_channels p l c).volume ≤ 255
+  processed_most : (p : Float) (l : Option Float) (c : Control) → Sound s c → (process_channels p l c).volume ≤ 255
   processed_most p l c h = ((sound_kept s low).runs.processes p l c h).volume
 
-  recommends_fine : (used : Bool) (applied : ℕ) (p : Float) (l : SpeechLevel) (c : Controller) → applied ≤ 255 → Sound s c.control → Fine (recommend_if used applied p l c).reply
+  recommends_fine : (used : Bool) (applied : ℕ) (p : Float) (l : Option Float) (c : Controller) → applied ≤ 255 → Sound s c.control → Fine (recommend_if used applied p l c).reply
   recommends_fine true applied p l c k h = within 0 _ zero-le (processed_most p l c.control h)
   recommends_fine false applied p l c k h = within 0 applied zero-le k
 
-  recommendation_fine : (a : Applied) (p : Float) (l : SpeechLevel) (c : Controller) → c.control.applied ≡ a → Sound s c.control → Fine (unless_none a p l c).reply
-  recommendation_fine Nothing p l c e h = tt
-  recommendation_fine (Volume v) p l c e h = recommends_fine c.control.used v p l c (subst AppliedMost e h.applied) h
+  recommendation_fine : (a : Option ℕ) (p : Float) (l : Option Float) (c : Controller) → c.control.applied ≡ a → Sound s c.control → Fine (unless_none a p l c).reply
+  recommendation_fine None p l c e h = tt
+  recommendation_fine (Some v) p l c e h = recommends_fine c.control.used v p l c (subst AppliedMost e h.applied) h
 
   step_fine : (call : Call) (c : Controller) → Sound s c.control → Fine (step c call).reply
   unfolding analyze_input_audio recommend_input_volume
@@ -96,7 +93,7 @@ module _ (s : Settings) (low : s.least ≤ 255) where
 
   -- ---- with capture on and a volume above 0 applied
 
-  raised_least : (c : Control) (p : Float) (l : SpeechLevel) (v : ℕ) → c.applied ≡ Volume (suc v) → Sound s c → s.least ≤ (process_channels p l c).volume
+  raised_least : (c : Control) (p : Float) (l : Option Float) (v : ℕ) → c.applied ≡ Some (suc v) → Sound s c → s.least ≤ (process_channels p l c).volume
   raised_least c p l v e h = omega (arith, processed_least c p l v e, ap (λ (t : Settings). t.least) h.settings)
 
   sound_bounds : (c : Controller) → Sound s c.control → InBounds (pos s.least) c
@@ -104,13 +101,13 @@ module _ (s : Settings) (low : s.least ≤ 255) where
   sound_bounds c h zero on e pos-applied p l = absurd (not-suc-le-zero pos-applied)
   sound_bounds c h (suc v) on e pos-applied p l = record {
     recommended = pos (process_channels p l c.control).volume;
-    is = ap (λ (a : Applied). (unless_none a p l c).reply) e ∙ ap (λ (t : Bool). (recommend_if t (suc v) p l c).reply) on;
+    is = ap (λ (a : Option ℕ). (unless_none a p l c).reply) e ∙ ap (λ (t : Bool). (recommend_if t (suc v) p l c).reply) on;
     within = within s.least _ (raised_least c.control p l v e h) (processed_most p l c.control h);
   }
 
 -- ---- the claim
 
-module _ (channels : ℤ) (config : Config) (predictor : ClippingPredictorConfig) (accepted : (making_with channels config predictor).answer ≡ Accepted) (calls : List Call) where
+module _ (channels : ℤ) (config : Config) (predictor : ClippingPredictorConfig) (accepted : (making_with channels config predictor).answer ≡ Ok tt) (calls : List Call) where
   made : MadeWith (within_of 1 max_channels channels) config (settings_from config) predictor (making_with channels config predictor).controller
   made = accepted_making channels config predictor accepted
 

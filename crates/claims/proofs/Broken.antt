@@ -6,12 +6,9 @@ use Prim.Native.Nat.{ℕ, max}
 use lib.Dec.{ltb}
 use lib.Ieee.{Float, lt}
 use lib.ListN.{length}
-use Rattle.numbers.specs.declared.refusal.Outcome.{Outcome}
-use Rattle.numbers.specs.declared.refusal.Outcome.TheVariants.{Accepted, Refused}
+use Rattle.std.specs.Prelude.{Err, None, Ok, Option, Result, Some}
+use Rattle.numbers.specs.declared.refusal.Refusal.{Refusal}
 use Rattle.clipping_predictor.specs.Predictor.{Predictor, entered_if}
-use Rattle.mono_input_volume_controller.specs.declared.speech_level.SpeechLevel.{SpeechLevel}
-use Rattle.input_volume_controller.specs.declared.Applied.{Applied}
-use Rattle.input_volume_controller.specs.declared.Applied.TheVariants.{Nothing, Volume}
 use Rattle.input_volume_controller.specs.ClippedRatio.{clipped_ratio_of}
 use Rattle.input_volume_controller.specs.Controller.{Controller}
 use Rattle.clipping_predictor.specs.AllRings.{predicted_by}
@@ -47,20 +44,20 @@ module _ (start : Predictor) (frames : List Frame) (samples : ℕ) (lent : List 
       (record { control = c.control; predictor = entered_if true samples lent c.predictor }) (stored_entered start frames c.predictor samples lent h)
   if_used_lem false c h = h
 
-  unless_refused_lem : (o : Outcome) (volumes : List ℕ) (c : Controller) → Stored start frames c.predictor
+  unless_refused_lem : (o : Result (Unit {0}) Refusal) (volumes : List ℕ) (c : Controller) → Stored start frames c.predictor
       → Stored start (with_if (is_taken o && c.control.used) (record { samples = samples; lent = lent }) frames) (unless_refused o volumes samples lent c).state.predictor
-  unless_refused_lem (Refused cause) volumes c h = h
-  unless_refused_lem Accepted volumes c h = if_used_lem c.control.used (with_volumes_applied volumes c) h
+  unless_refused_lem (Err cause) volumes c h = h
+  unless_refused_lem (Ok tt) volumes c h = if_used_lem c.control.used (with_volumes_applied volumes c) h
 
 -- ---- a recommendation leaves the rings alone
 
-recommends : (used : Bool) (applied : ℕ) (probability : Float) (level : SpeechLevel) (c : Controller) → (recommend_if used applied probability level c).state.predictor ≡ c.predictor
+recommends : (used : Bool) (applied : ℕ) (probability : Float) (level : Option Float) (c : Controller) → (recommend_if used applied probability level c).state.predictor ≡ c.predictor
 recommends true applied probability level c = refl
 recommends false applied probability level c = refl
 
-recommendation_same : (a : Applied) (probability : Float) (level : SpeechLevel) (c : Controller) → (unless_none a probability level c).state.predictor ≡ c.predictor
-recommendation_same Nothing probability level c = refl
-recommendation_same (Volume v) probability level c = recommends c.control.used v probability level c
+recommendation_same : (a : Option ℕ) (probability : Float) (level : Option Float) (c : Controller) → (unless_none a probability level c).state.predictor ≡ c.predictor
+recommendation_same None probability level c = refl
+recommendation_same (Some v) probability level c = recommends c.control.used v probability level c
 
 -- ---- every call
 

@@ -8,17 +8,14 @@ use native.Mathlib.Omega.{arith}
 use lib.Dec.{T}
 use lib.Ieee.{Float, le}
 use lib.ListN.{length, replicate}
-use Rattle.numbers.specs.declared.refusal.Outcome.{Outcome}
-use Rattle.numbers.specs.declared.refusal.Outcome.TheVariants.{Accepted, Refused}
+use Rattle.std.specs.Prelude.{Err, None, Ok, Option, Result, Some}
+use Rattle.numbers.specs.declared.refusal.Refusal.{Refusal}
 use Rattle.clipping_predictor_level_buffer.specs.declared.level.Level.{Level}
 use Rattle.clipping_predictor_level_buffer.specs.Statistics.{plus_zero}
 use Rattle.clipping_predictor.specs.declared.settings.Settings as Predictor
 use Rattle.clipping_predictor.specs.Estimate.{capacity_if, capacity_of}
 use Rattle.clipping_predictor.specs.Predictor.{levels_of}
 use Rattle.mono_input_volume_controller.specs.declared.config.Settings.{Settings}
-use Rattle.mono_input_volume_controller.specs.declared.speech_level.SpeechLevel.{SpeechLevel}
-use Rattle.input_volume_controller.specs.declared.Applied.{Applied}
-use Rattle.input_volume_controller.specs.declared.Applied.TheVariants.{Nothing, Volume}
 use Rattle.clipping_predictor_level_buffer.specs.Clipped.{one_if}
 use Rattle.input_volume_controller.specs.ControlCalls.{aggregated, initialize, process_channels}
 use Rattle.input_volume_controller.specs.Controller.{Controller}
@@ -63,16 +60,16 @@ module _ (p : Predictor.Settings) (s : Settings) (n : ℕ) where
   led_by : (grown : List (List Level)) (j k : ℕ) (c : Controller) → j ≡ k → L grown j c → L grown k c
   led_by grown j k c e h = subst (λ (x : ℕ). L grown x c) e h
 
-  led_recommended : (t : Bool) (applied : ℕ) (probability : Float) (level : SpeechLevel) (grown : List (List Level)) (k : ℕ) (c : Controller) → L grown k c
+  led_recommended : (t : Bool) (applied : ℕ) (probability : Float) (level : Option Float) (grown : List (List Level)) (k : ℕ) (c : Controller) → L grown k c
       → L grown k (recommend_if t applied probability level c).state
   unfolding process_channels aggregated
   led_recommended true applied probability level grown k c h = led_same p s grown k c _ refl refl refl h
   led_recommended false applied probability level grown k c h = led_same p s grown k c _ refl refl refl h
 
-  led_asked : (a : Applied) (probability : Float) (level : SpeechLevel) (grown : List (List Level)) (k : ℕ) (c : Controller) → L grown k c
+  led_asked : (a : Option ℕ) (probability : Float) (level : Option Float) (grown : List (List Level)) (k : ℕ) (c : Controller) → L grown k c
       → L grown k (unless_none a probability level c).state
-  led_asked Nothing probability level grown k c h = h
-  led_asked (Volume applied) probability level grown k c h = led_recommended c.control.used applied probability level grown k c h
+  led_asked None probability level grown k c h = h
+  led_asked (Some applied) probability level grown k c h = led_recommended c.control.used applied probability level grown k c h
 
   pub led_initialise : (grown : List (List Level)) (k : ℕ) (c : Controller) → L grown k c → L grown k (step c initialise).state
   unfolding initialize aggregated
@@ -82,11 +79,11 @@ module _ (p : Predictor.Settings) (s : Settings) (n : ℕ) where
   led_switch on grown k c t h = record { on = is_true on t; m = h.m; late = h.late; rows = h.rows; waited = h.waited }
 
   module _ (window : 1 ≤ p.window) (ratio : T (le plus_zero s.clipped_ratio)) where
-    led_heard : (o : Outcome) (volumes : List ℕ) (samples : ℕ) (lent : List Float) (grown : List (List Level)) (k : ℕ) (c : Controller) → Kept p s n c
+    led_heard : (o : Result (Unit {0}) Refusal) (volumes : List ℕ) (samples : ℕ) (lent : List Float) (grown : List (List Level)) (k : ℕ) (c : Controller) → Kept p s n c
         → T (not (is_taken o) || quiet_for p n samples lent) → L grown k c
         → L (grow_if (is_taken o) (levels_of n samples lent) grown) (one_if (is_taken o) + k) (unless_refused o volumes samples lent c).state
-    led_heard (Refused cause) volumes samples lent grown k c b t h = led_by _ k (0 + k) _ (omega arith) h
-    led_heard Accepted volumes samples lent grown k c b t h = led_by _ (suc k) (1 + k) _ (omega arith) (led_frame p s n window ratio volumes samples lent grown k c b t h)
+    led_heard (Err cause) volumes samples lent grown k c b t h = led_by _ k (0 + k) _ (omega arith) h
+    led_heard (Ok tt) volumes samples lent grown k c b t h = led_by _ (suc k) (1 + k) _ (omega arith) (led_frame p s n window ratio volumes samples lent grown k c b t h)
 
     led_step : (call : Call) (grown : List (List Level)) (k : ℕ) (c : Controller) → Kept p s n c → T (is_calm n (quiet_for p n) call) → L grown k c
         → L (grown_by n call grown) (accepted_by n call + k) (step c call).state

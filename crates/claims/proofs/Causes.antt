@@ -9,8 +9,7 @@ use lib.Signed.{lt_z, le_z}
 use lib.Ieee.{Float}
 use lib.ListN.{length}
 use borrow.Author.Tests.{leb-true, leb-false, le-ltb, lt-ltb}
-use Rattle.numbers.specs.declared.natural.Natural.{Natural}
-use Rattle.numbers.specs.declared.natural.Natural.TheVariants.{Number, Outside}
+use Rattle.std.specs.Prelude.{None, Option, Some}
 use Rattle.numbers.specs.Natural.{number_if, within_of}
 use Rattle.numbers.proofs.Ranges.{told}
 use Rattle.clipping_predictor.specs.Predictor.{frame_fits}
@@ -67,9 +66,9 @@ unfolding both_in_unit in_unit
 one_outside_unit x y = either (in_unit x) (in_unit y)
 
 -- a number that must lie in a range
-abbrev pub is_outside : Natural → Bool
-is_outside Outside = true
-is_outside (Number n) = false
+abbrev pub is_outside : Option ℕ → Bool
+is_outside None = true
+is_outside (Some n) = false
 
 number_if_lem : (t : Bool) (n : ℕ) → not t ≡ is_outside (number_if t n)
 number_if_lem true n = refl
@@ -81,7 +80,7 @@ within_is low high (pos n) = outside_is (pos low) (pos high) (pos n) ∙ number_
 within_is low high (negsuc n) = refl
 
 -- of two volumes, one lies above the other
-pub above_is : (x y : ℤ) (m n : ℕ) → within_of 0 255 x ≡ Number m → within_of 0 255 y ≡ Number n → lt_z x y ≡ not (leb n m)
+pub above_is : (x y : ℤ) (m n : ℕ) → within_of 0 255 x ≡ Some m → within_of 0 255 y ≡ Some n → lt_z x y ≡ not (leb n m)
 above_is x y m n p q = (λ i. lt_z ((told 0 255 x m p).is i) ((told 0 255 y n q).is i)) ∙ less_is n m
 
 -- ---- the size of a frame
@@ -96,10 +95,10 @@ misfit_is channels samples lent =
 
 -- ---- a set of volumes
 
-one_more : (v : Natural) (s : Volumes) → is_outside v || not (are_numbers s) ≡ not (are_numbers (and_volume v s))
-one_more Outside s = refl
-one_more (Number n) outside_set = refl
-one_more (Number n) (number_set ns) = refl
+one_more : (v : Option ℕ) (s : Volumes) → is_outside v || not (are_numbers s) ≡ not (are_numbers (and_volume v s))
+one_more None s = refl
+one_more (Some n) outside_set = refl
+one_more (Some n) (number_set ns) = refl
 
 pub set_is : (volumes : List ℤ) → any_outside volumes ≡ not (are_numbers (numbers_of volumes))
 unfolding numbers_of

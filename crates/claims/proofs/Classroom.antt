@@ -2,7 +2,6 @@
 use mathlib.Core.Path.{◌≡◌, refl, sym, ap, subst, ◌∙◌}
 use mathlib.Core.Bool.{Bool, true, false, not}
 use mathlib.Core.List.{List, map}
-use mathlib.Core.Option.{Option, none, some}
 use Prim.Native.Nat.{ℕ, ◌≤◌, ◌<◌, min}
 use native.Mathlib.Omega.{arith}
 use lib.Dec.{T, leb, eqb, le→leb}
@@ -10,7 +9,7 @@ use lib.IntN.{ℤ, pos}
 use lib.Signed.{le_z_yes}
 use lib.Ieee.{Float}
 use lib.ListN.{length, get_or, replicate, get_or-replicate, get_or-map}
-use Rattle.numbers.specs.declared.refusal.Outcome.TheVariants.{Accepted}
+use Rattle.std.specs.Prelude.{Ok, Option, None, Some}
 use Rattle.numbers.proofs.Signs.{clash, ≤ℤ-trans}
 use Rattle.clipping_predictor.specs.declared.settings.ClippingPredictorConfig.{ClippingPredictorConfig}
 use Rattle.mono_input_volume_controller.specs.declared.config.Config.{Config}
@@ -20,10 +19,9 @@ use Rattle.mono_input_volume_controller.specs.declared.config.Settings.{Settings
 use Rattle.mono_input_volume_controller.specs.declared.mono.MonoInputVolumeController.{MonoInputVolumeController}
 use Rattle.mono_input_volume_controller.specs.Config.{settings_from}
 use Rattle.mono_input_volume_controller.specs.Mono.{created, is_users, unless_same, unless_users, unless_muted, with_input_volume, lowered, lower_ceiling, unless_at_floor, handled_clipping}
-use Rattle.input_volume_controller.specs.declared.channels.ChannelCall.TheVariants.{StreamAnalogLevel, Clipping}
+use Rattle.input_volume_controller.specs.Channels.{StreamAnalogLevel, Clipping, no_channel, called}
 use Rattle.input_volume_controller.specs.declared.limits.Limits.{Limits}
 use Rattle.input_volume_controller.specs.declared.InputVolumeController.{InputVolumeController}
-use Rattle.input_volume_controller.specs.Channels.{no_channel, called}
 use Rattle.input_volume_controller.specs.Controller.{Controller, view_of, Making, making_with}
 use Rattle.input_volume_controller.specs.Profile.{making_in}
 use Rattle.input_volume_controller.specs.Reply.{mark}
@@ -73,8 +71,8 @@ unfolding called handled_clipping
 held_clipped amount m = held_floor m.floor m.volume (lower_ceiling amount m) refl (leb m.last m.floor) (lowered m amount m.last) (omega arith)
 
 held_lowered : (lowering : Option ℕ) (m : MonoInputVolumeController) → Held m.floor m.volume (lowered_by lowering m)
-held_lowered none m = λ off. absurd (off refl)
-held_lowered (some amount) m = held_clipped amount m
+held_lowered None m = λ off. absurd (off refl)
+held_lowered (Some amount) m = held_clipped amount m
 
 held_given : (lowering : Option ℕ) (given : ℕ) (m : MonoInputVolumeController) → Held m.floor given (lowered_by lowering (called (StreamAnalogLevel given) m))
 unfolding called
@@ -108,7 +106,7 @@ floored_kept s n c channel count cores inside =
 -- ---- a making
 
 module _ (channels : ℤ) (config : Config) (predictor : ClippingPredictorConfig) where
-  plain_level : (making_with channels config predictor).answer ≡ Accepted → (calls : List Call) → NeverMovesBelow config.clipped_level_min (after (making_with channels config predictor).controller calls)
+  plain_level : (making_with channels config predictor).answer ≡ Ok tt → (calls : List Call) → NeverMovesBelow config.clipped_level_min (after (making_with channels config predictor).controller calls)
   plain_level accepted calls =
       let m = accepted_making channels config predictor accepted in
       let s = settings_from config in
@@ -118,11 +116,11 @@ module _ (channels : ℤ) (config : Config) (predictor : ClippingPredictorConfig
       subst (λ (z : ℤ). NeverMovesBelow z (after new calls)) (level_kept config new m)
       (never_below s.floor (after new calls) (λ channel inside. floored_kept s m.count (after new calls) channel (count_of s m.count _ kept.control) kept.control.cores inside))
 
-  at_level : (profile : Profile) → (making_in profile channels config predictor).answer ≡ Accepted → NeverMovedBelow config.clipped_level_min profile channels config predictor
+  at_level : (profile : Profile) → (making_in profile channels config predictor).answer ≡ Ok tt → NeverMovedBelow config.clipped_level_min profile channels config predictor
   at_level profile h calls = by_plain profile channels config predictor h (λ (m : Making). NeverMovesBelow config.clipped_level_min (after m.controller calls)) (λ k. plain_level k calls)
 
   -- within the classroom the minimum lies at or below it
-  defined : (making_in Classroom channels config predictor).answer ≡ Accepted → NeverMovedBelow config.min_input_volume Classroom channels config predictor
+  defined : (making_in Classroom channels config predictor).answer ≡ Ok tt → NeverMovedBelow config.min_input_volume Classroom channels config predictor
   defined h calls most volumes samples lent t channel inside off =
       ≤ℤ-trans (le_z_yes (subst T (sym (in_classroom config (in_profile_taken Classroom channels config predictor h)).level) tt)) (at_level Classroom h calls most volumes samples lent t channel inside off)
 

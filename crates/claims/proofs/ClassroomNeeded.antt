@@ -9,7 +9,7 @@ use lib.IntN.{pos}
 use lib.Signed.{◌≤ℤ◌}
 use lib.Ieee.{fin, add, mul, div, lt, le, of_int, of_bits}
 use lib.ListN.{length}
-use Rattle.numbers.specs.declared.refusal.Outcome.TheVariants.{Accepted}
+use Rattle.std.specs.Prelude.{None, Ok}
 use Rattle.numbers.specs.Listed.{listed}
 use Rattle.numbers.specs.Natural.{within_of}
 use Rattle.levels.specs.Decibels.{minus, less, at_most, within}
@@ -27,10 +27,8 @@ use Rattle.clipping_predictor.specs.Estimate.{drop_by, adaptive_drop, estimate_t
 use Rattle.clipping_predictor.specs.Predictor.{push_each, frame_fits}
 use Rattle.clipping_predictor.specs.MostClipped.{most_clipped}
 use Rattle.mono_input_volume_controller.specs.declared.config.Settings.{Settings}
-use Rattle.mono_input_volume_controller.specs.declared.config.Checked.TheVariants.{InOrder}
 use Rattle.mono_input_volume_controller.specs.declared.profile.Profile.{Profile}
 use Rattle.mono_input_volume_controller.specs.declared.profile.Profile.TheVariants.{Plain, Classroom}
-use Rattle.mono_input_volume_controller.specs.declared.speech_level.SpeechLevel.TheVariants.{Absent}
 use Rattle.mono_input_volume_controller.specs.SpeechLevel.{rms_error_of}
 use Rattle.mono_input_volume_controller.specs.Mono.{is_users}
 use Rattle.mono_input_volume_controller.specs.Config.{defaults, settings_from, settings_of}
@@ -60,7 +58,7 @@ settings level = settings_from (level_at level)
 
 -- a configuration with the default settings but for its clipped_level_min: the plain making takes it, and whether the classroom's does
 record Made (level : ℕ) (inside : Bool) : Type 0 where
-  in_order : settings_of (level_at level) ≡ InOrder (settings level)
+  in_order : settings_of (level_at level) ≡ Ok (settings level)
   takes_it : takes Classroom (level_at level) ≡ inside
 
 made_10 : Made 10 false
@@ -75,14 +73,14 @@ made_70 : Made 70 true
 unfolding defaults settings_of classroom_conditions all_hold of_int of_bits le
 made_70 = record { in_order = refl; takes_it = refl }
 
-plain_made : {inside : Bool} (level : ℕ) → Made level inside → making_with (pos 1) (level_at level) base_predictor ≡ record { answer = Accepted; controller = fresh (settings level) 1 }
+plain_made : {inside : Bool} (level : ℕ) → Made level inside → making_with (pos 1) (level_at level) base_predictor ≡ record { answer = Ok tt; controller = fresh (settings level) 1 }
 plain_made level m = taken (level_at level) base_predictor (settings level) _ m.in_order (base_checked _)
 
 -- ---- the frames
 
 -- the recommendation ends the startup, and takes 30 as the last volume
 abbrev past : List Call
-past = still 30 ∷ recommendation plus_zero Absent ∷ []
+past = still 30 ∷ recommendation plus_zero None ∷ []
 
 abbrev left : Controller → Control
 left new = (step (after new past) (clipped 30)).state.control
@@ -98,7 +96,7 @@ computed : Computed
 unfolding is_accepted listed within_of minus less at_most within magnitude_of Decibel.level_of dbfs gain walk frame_record metrics_over partial_metrics sum mean largest drop_by adaptive_drop estimate_tree push_each frame_fits estimated after called aggregate_of count_of clipped_in total most_clipped clipped_ratio_of rms_error_of is_users defaults settings_from with_applied_input_volumes lowest_of each_given numbers_of lower_channels analyze_input_audio recommend_input_volume of_int of_bits add mul div lt le
 computed = record { below = refl; before = refl; count = refl; at_the_edge = refl; accepted = tt }
 
-moved_to : (profile : Profile) (level own : ℕ) → making_in profile (pos 1) (level_at level) base_predictor ≡ record { answer = Accepted; controller = fresh (settings level) 1 } → volume_of (left (fresh (settings level) 1)) 0 ≡ own
+moved_to : (profile : Profile) (level own : ℕ) → making_in profile (pos 1) (level_at level) base_predictor ≡ record { answer = Ok tt; controller = fresh (settings level) 1 } → volume_of (left (fresh (settings level) 1)) 0 ≡ own
     → (own ≡ 30 → ⊥) → MovedTo profile (level_at level) own
 moved_to profile level own made moved off = record {
   made = ap (λ (m : Making). m.answer) made;
@@ -119,7 +117,7 @@ below_minimum h = h.le
 pub classroom_is_needed : ClassroomIsNeeded
 unfolding defaults
 classroom_is_needed = record {
-  outside = ap (λ (m : Making). (within_profile (takes Classroom (level_at 10)) m).answer) (plain_made 10 made_10) ∙ ap (λ (t : Bool). (within_profile t (record { answer = Accepted; controller = fresh (settings 10) 1 })).answer) made_10.takes_it;
+  outside = ap (λ (m : Making). (within_profile (takes Classroom (level_at 10)) m).answer) (plain_made 10 made_10) ∙ ap (λ (t : Bool). (within_profile t (record { answer = Ok tt; controller = fresh (settings 10) 1 })).answer) made_10.takes_it;
   below = moved_to Plain 10 15 (plain_made 10 made_10) computed.below (λ e. omega (arith, e));
   refuted = λ never.
       let new = (making_with (pos 1) (level_at 10) base_predictor).controller in

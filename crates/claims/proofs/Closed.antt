@@ -8,13 +8,12 @@ use lib.Dec.{T, leb, leb→le}
 use lib.Ieee.{Float}
 use lib.ListN.{length}
 use borrow.Author.Tests.{ne_eqb}
-use Rattle.mono_input_volume_controller.specs.declared.speech_level.RmsError.{RmsError}
+use Rattle.std.specs.Prelude.{ℤ, Option}
 use Rattle.mono_input_volume_controller.specs.declared.mono.MonoInputVolumeController.{MonoInputVolumeController}
-use Rattle.input_volume_controller.specs.declared.channels.ChannelCall.TheVariants.{Initialize, StreamAnalogLevel, Process}
+use Rattle.input_volume_controller.specs.Channels.{Initialize, StreamAnalogLevel, Process, called, each_called, each_given}
 use Rattle.mono_input_volume_controller.specs.MonoState.{max_input_volume, volumes, flags, counts}
 use Rattle.mono_input_volume_controller.specs.Mono.{initialized, with_stream_analog_level}
 use Rattle.mono_input_volume_controller.specs.MonoProcess.{stays_muted, unless_stays_muted, checked_volume_and_reset, settled, speech_frames, counted, not_first, processed}
-use Rattle.input_volume_controller.specs.Channels.{called, each_called, each_given}
 use Rattle.claims.specs.LeadIn.{all}
 use Rattle.claims.proofs.Lists.{and_l, and_r}
 use Rattle.claims.proofs.Cores.{core}
@@ -24,7 +23,7 @@ abbrev checked_at : ℕ → MonoInputVolumeController → MonoInputVolumeControl
 checked_at v m = counts 0 0 true (flags true false false (volumes max_input_volume (max v m.least) (max v m.least) m))
 
 -- what the three calls make of a channel, by what is left of it
-abbrev pub finished : RmsError → Float → ℕ → MonoInputVolumeController → MonoInputVolumeController
+abbrev pub finished : Option ℤ → Float → ℕ → MonoInputVolumeController → MonoInputVolumeController
 finished error probability v m = not_first (counted error (speech_frames probability (checked_at v m)) (checked_at v m))
 
 not_muted : (startup : Bool) (v : ℕ) → 1 ≤ v → stays_muted startup v ≡ false
@@ -37,7 +36,7 @@ unfolding settled checked_volume_and_reset
 settled_is v m h =
     ap (λ (t : Bool). unless_stays_muted t (max v m.least) (flags true false m.startup (with_stream_analog_level v (initialized m)))) (not_muted m.startup v h)
 
-module _ (error : RmsError) (probability : Float) where
+module _ (error : Option ℤ) (probability : Float) where
   processed_is : (v : ℕ) (m : MonoInputVolumeController) → 1 ≤ v → processed error probability (with_stream_analog_level v (initialized m)) ≡ finished error probability v (core m)
   unfolding processed
   processed_is v m positive = ap (λ (x : MonoInputVolumeController). not_first (counted error (speech_frames probability x) x)) (settled_is v m positive)

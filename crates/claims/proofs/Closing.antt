@@ -8,6 +8,7 @@ use lib.IntN.{pos}
 use lib.Ieee.{Float}
 use lib.Dec.{T, leb}
 use lib.ListN.{length, length-map, take, replicate}
+use Rattle.std.specs.Prelude.{None, Option, Some}
 use Rattle.clipping_predictor_level_buffer.specs.declared.level.Level.{Level}
 use Rattle.clipping_predictor.specs.declared.settings.Settings as Predictor
 use Rattle.clipping_predictor.specs.Estimate.{capacity_of}
@@ -15,8 +16,6 @@ use Rattle.clipping_predictor.specs.Settings.{Good}
 use Rattle.clipping_predictor.specs.Predictor.{Predictor, levels_of, entered_if}
 use Rattle.mono_input_volume_controller.specs.declared.config.Settings.{Settings}
 use Rattle.mono_input_volume_controller.specs.declared.mono.MonoInputVolumeController.{MonoInputVolumeController}
-use Rattle.mono_input_volume_controller.specs.declared.speech_level.SpeechLevel.{SpeechLevel}
-use Rattle.input_volume_controller.specs.declared.Applied.TheVariants.{Nothing, Volume}
 use Rattle.mono_input_volume_controller.specs.SpeechLevel.{rms_error_of}
 use Rattle.mono_input_volume_controller.specs.Mono.{created}
 use Rattle.input_volume_controller.specs.Volumes.{lowest_of}
@@ -39,7 +38,7 @@ use Rattle.claims.proofs.Calm.{grown_in, led_start, led_after, led_initialise, r
 use Rattle.claims.proofs.Outcomes.{accepted_as}
 use Rattle.claims.proofs.Runs.{after_append, after_refused, skip, step_numbers, step_recommended}
 
-module _ (vs : List ℕ) (samples : ℕ) (lent : List Float) (probability : Float) (level : SpeechLevel) where
+module _ (vs : List ℕ) (samples : ℕ) (lent : List Float) (probability : Float) (level : Option Float) where
   -- the state that the last three calls leave, by the settings, what is left of the channels, the count that the frame leaves, and the predictor that it leaves
   final : Settings → List MonoInputVolumeController → ℕ → Predictor → Controller
   final s cores since predictor =
@@ -50,8 +49,8 @@ module _ (vs : List ℕ) (samples : ℕ) (lent : List Float) (probability : Floa
           channels = channels;
           since = since;
           used = true;
-          applied = Nothing;
-          volume = raised_for (Volume (lowest_of vs)) s.least (aggregate_of channels).volume;
+          applied = None;
+          volume = raised_for (Some (lowest_of vs)) s.least (aggregate_of channels).volume;
           controlling = (aggregate_of channels).channel;
         };
         predictor = predictor;
@@ -68,8 +67,8 @@ module _ (vs : List ℕ) (samples : ℕ) (lent : List Float) (probability : Floa
           channels = channels;
           since = since;
           used = true;
-          applied = Nothing;
-          volume = raised_for (Volume (lowest_of vs)) c.control.settings.least (aggregate_of channels).volume;
+          applied = None;
+          volume = raised_for (Some (lowest_of vs)) c.control.settings.least (aggregate_of channels).volume;
           controlling = (aggregate_of channels).channel;
         };
         predictor = entered_if true samples lent c.predictor;

@@ -8,17 +8,14 @@ use native.Mathlib.Omega.{arith}
 use lib.IntN.{pos}
 use lib.Ieee.{Float}
 use lib.ListN.{length, get_or, replicate, length-map, length-replicate, get_or-replicate}
+use Rattle.std.specs.Prelude.{None, Option, Some}
 use Rattle.clipping_predictor.specs.declared.settings.Settings as Predictor
 use Rattle.mono_input_volume_controller.specs.declared.config.Settings.{Settings}
 use Rattle.mono_input_volume_controller.specs.declared.mono.MonoInputVolumeController.{MonoInputVolumeController}
-use Rattle.mono_input_volume_controller.specs.declared.speech_level.SpeechLevel.{SpeechLevel}
 use Rattle.mono_input_volume_controller.specs.SpeechLevel.{rms_error_of}
 use Rattle.mono_input_volume_controller.specs.Mono.{created, handled_capture_output_used_change}
-use Rattle.input_volume_controller.specs.declared.channels.ChannelCall.TheVariants.{Initialize, CaptureOutputUsed, Clipping, Process}
-use Rattle.input_volume_controller.specs.declared.Applied.{Applied}
-use Rattle.input_volume_controller.specs.declared.Applied.TheVariants.{Nothing, Volume}
+use Rattle.input_volume_controller.specs.Channels.{Initialize, CaptureOutputUsed, Clipping, Process, no_channel, called, each_called, each_given}
 use Rattle.input_volume_controller.specs.Volumes.{lowest_of}
-use Rattle.input_volume_controller.specs.Channels.{no_channel, called, each_called, each_given}
 use Rattle.input_volume_controller.specs.Control.{Control, with_channels, with_since, with_used, with_applied, each_channel}
 use Rattle.input_volume_controller.specs.ControlCalls.{raised_for, aggregated, with_applied_input_volumes, initialize, lower_channels, process_channels}
 use Rattle.input_volume_controller.specs.Controller.{Controller, fresh_with}
@@ -55,7 +52,7 @@ switched_volume on (m ∷ ms) zero = refl
 switched_volume on (m ∷ ms) (suc i) = switched_volume on ms i
 
 -- that nothing is pending changes none either
-pending_gone : (c : Control) → HoldsLowest c → HoldsLowest (with_applied Nothing c)
+pending_gone : (c : Control) → HoldsLowest c → HoldsLowest (with_applied None c)
 pending_gone c h = record { there = h.there; least = h.least; first = h.first }
 
 holds_kept : Keeps Any HoldsLowest
@@ -66,7 +63,7 @@ holds_kept = record {
       lowers = λ by c h. taken (with_since 0 (each_channel (Clipping by) c)) (omega (arith, some c h, length-map c.channels (called (Clipping by))));
       counts = λ c h. record { there = h.there; least = h.least; first = h.first };
     };
-    applies = λ volumes c e m t h. taken (with_applied (Volume (lowest_of volumes)) (with_channels (each_given volumes c.channels) c)) (omega (arith, some c h, length_given volumes c.channels));
+    applies = λ volumes c e m t h. taken (with_applied (Some (lowest_of volumes)) (with_channels (each_given volumes c.channels) c)) (omega (arith, some c h, length_given volumes c.channels));
     processes = λ probability level c h.
         let error = rms_error_of level c.settings.min_target c.settings.max_target in
         pending_gone _ (taken (each_channel (Process error probability) c) (omega (arith, some c h, length-map c.channels (called (Process error probability)))));
@@ -95,7 +92,7 @@ holds_after predictor s count h calls = after_keeps HoldsLowest holds_kept calls
 
 -- ---- a recommendation
 
-processed_is : (c : Control) (probability : Float) (level : SpeechLevel) (a : Applied) → 1 ≤ length c.channels → c.applied ≡ a
+processed_is : (c : Control) (probability : Float) (level : Option Float) (a : Option ℕ) → 1 ≤ length c.channels → c.applied ≡ a
     → (process_channels probability level c).volume ≡ raised_for a c.settings.least (volume_of (process_channels probability level c) (process_channels probability level c).controlling)
 unfolding process_channels aggregated
 processed_is c probability level a h e =
@@ -107,10 +104,10 @@ recommends : (c : Controller) → 1 ≤ length c.control.channels → Recommends
 unfolding recommend_input_volume
 recommends c h applied on e probability level =
     let asked : step c (recommendation probability level) ≡ recommend_if true applied probability level c =
-    ap (λ (a : Applied). unless_none a probability level c) e ∙ ap (λ (used : Bool). recommend_if used applied probability level c) on in
+    ap (λ (a : Option ℕ). unless_none a probability level c) e ∙ ap (λ (used : Bool). recommend_if used applied probability level c) on in
     ap (λ (s : Stepped). s.reply) asked
-    ∙ ap (λ (v : ℕ). volume (pos v)) (processed_is c.control probability level (Volume applied) h e)
-    ∙ sym (ap (λ (s : Stepped). volume (pos (raised_for (Volume applied) c.control.settings.least (volume_of s.state.control s.state.control.controlling)))) asked)
+    ∙ ap (λ (v : ℕ). volume (pos v)) (processed_is c.control probability level (Some applied) h e)
+    ∙ sym (ap (λ (s : Stepped). volume (pos (raised_for (Some applied) c.control.settings.least (volume_of s.state.control s.state.control.controlling)))) asked)
 
 -- THE CLAIM
 pub controlling_is_lowest : ControllingIsLowest

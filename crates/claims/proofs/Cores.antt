@@ -6,16 +6,13 @@ use Prim.Native.Nat.{ℕ, ◌+◌, min, max}
 use lib.Dec.{ltb, leb, eqb}
 use lib.IntN.{ℤ}
 use lib.Ieee.{Float}
+use Rattle.std.specs.Prelude.{None, Option, Some}
 use Rattle.gain_map.specs.VolumeUpdate.{walk}
-use Rattle.mono_input_volume_controller.specs.declared.speech_level.RmsError.{RmsError}
-use Rattle.mono_input_volume_controller.specs.declared.speech_level.RmsError.TheVariants.{NoError, Db}
 use Rattle.mono_input_volume_controller.specs.declared.mono.MonoInputVolumeController.{MonoInputVolumeController}
-use Rattle.input_volume_controller.specs.declared.channels.ChannelCall.{ChannelCall}
-use Rattle.input_volume_controller.specs.declared.channels.ChannelCall.TheVariants.{Initialize, CaptureOutputUsed, StreamAnalogLevel, Clipping, Process}
+use Rattle.input_volume_controller.specs.Channels.{ChannelCall, Initialize, CaptureOutputUsed, StreamAnalogLevel, Clipping, Process, called, each_called}
 use Rattle.mono_input_volume_controller.specs.MonoState.{max_input_volume, volumes, flags, counts}
 use Rattle.mono_input_volume_controller.specs.Mono.{handled_capture_output_used_change, is_users, unless_same, unless_users, unless_muted, with_input_volume, lowered, lower_ceiling, unless_at_floor, handled_clipping}
 use Rattle.mono_input_volume_controller.specs.MonoProcess.{stays_muted, unless_stays_muted, checked_volume_and_reset, held_error, is_zero, unless_zero, updated_input_volume, if_check, settled, speech_frames, may_act, corrected, waited, unless_waited, counted, processed}
-use Rattle.input_volume_controller.specs.Channels.{called, each_called}
 use Rattle.claims.proofs.Lists.{map_same}
 
 -- a channel with all wiped out but its settings and whether its output is used
@@ -59,12 +56,12 @@ module _ (m : MonoInputVolumeController) where
   unless_zero_lem true error = refl
   unless_zero_lem false error = lasting_set (walk error m.last m.least max_input_volume)
 
-  lasting_corrected : (error : RmsError) → lasting (corrected error m) ≡ lasting m
+  lasting_corrected : (error : Option ℤ) → lasting (corrected error m) ≡ lasting m
   unfolding corrected updated_input_volume
-  lasting_corrected NoError = refl
-  lasting_corrected (Db error) = unless_zero_lem (is_zero (held_error error)) (held_error error)
+  lasting_corrected None = refl
+  lasting_corrected (Some error) = unless_zero_lem (is_zero (held_error error)) (held_error error)
 
-  lasting_waited : (t : Bool) (error : RmsError) → lasting (waited t error m) ≡ lasting m
+  lasting_waited : (t : Bool) (error : Option ℤ) → lasting (waited t error m) ≡ lasting m
   unfolding waited
   lasting_waited true error = lasting_corrected error
   lasting_waited false error = refl
@@ -77,15 +74,15 @@ lasting_settled : (m : MonoInputVolumeController) → lasting (settled m) ≡ la
 unfolding settled
 lasting_settled m = if_check_lem m.check m
 
-unless_waited_lem : (t : Bool) (error : RmsError) (speech : ℕ) (m : MonoInputVolumeController) → lasting (unless_waited t error speech m) ≡ lasting m
+unless_waited_lem : (t : Bool) (error : Option ℤ) (speech : ℕ) (m : MonoInputVolumeController) → lasting (unless_waited t error speech m) ≡ lasting m
 unless_waited_lem true error speech m = refl
 unless_waited_lem false error speech m = lasting_waited (counts 0 0 m.first m) (may_act speech m) error
 
-lasting_counted : (error : RmsError) (speech : ℕ) (m : MonoInputVolumeController) → lasting (counted error speech m) ≡ lasting m
+lasting_counted : (error : Option ℤ) (speech : ℕ) (m : MonoInputVolumeController) → lasting (counted error speech m) ≡ lasting m
 unfolding counted
 lasting_counted error speech m = unless_waited_lem (ltb (m.frames + 1) m.wait) error speech m
 
-pub lasting_processed : (error : RmsError) (probability : Float) (m : MonoInputVolumeController) → lasting (processed error probability m) ≡ lasting m
+pub lasting_processed : (error : Option ℤ) (probability : Float) (m : MonoInputVolumeController) → lasting (processed error probability m) ≡ lasting m
 unfolding processed
 lasting_processed error probability m = lasting_counted error (speech_frames probability (settled m)) (settled m) ∙ lasting_settled m
 

@@ -9,11 +9,10 @@ use lib.Dec.{leb, ltb}
 use lib.IntN.{ℤ, pos, negsuc}
 use lib.Ieee.{Float, lt}
 use lib.ListN.{length, take, drop, length-take}
-use Rattle.numbers.specs.declared.refusal.Outcome.{Outcome}
-use Rattle.numbers.specs.declared.refusal.Outcome.TheVariants.{Accepted, Refused}
+use Rattle.std.specs.Prelude.{Err, None, Ok, Option, Result, Some}
+use Rattle.numbers.specs.declared.refusal.Refusal.{Refusal}
 use Rattle.numbers.proofs.Truths.{both_true}
 use Rattle.clipping_predictor_level_buffer.specs.declared.level.Level.{Level}
-use Rattle.clipping_predictor_level_buffer.specs.declared.Metrics.TheVariants.{Found}
 use Rattle.clipping_predictor_level_buffer.specs.Level.{frame_record}
 use Rattle.clipping_predictor_level_buffer.specs.Ring.{Counted}
 use Rattle.clipping_predictor_level_buffer.specs.Metrics.{clipped_of, metrics_over, found_if, metrics_if, partial_metrics, compute_partial_metrics}
@@ -23,9 +22,6 @@ use Rattle.clipping_predictor_level_buffer.proofs.Sums.{later_counted, total_mos
 use Rattle.clipping_predictor.specs.declared.modes.Estimated.{Estimated}
 use Rattle.clipping_predictor.specs.Predictor.{Predictor}
 use Rattle.clipping_predictor.specs.AllRings.{predicted_by}
-use Rattle.mono_input_volume_controller.specs.declared.speech_level.SpeechLevel.{SpeechLevel}
-use Rattle.input_volume_controller.specs.declared.Applied.{Applied}
-use Rattle.input_volume_controller.specs.declared.Applied.TheVariants.{Nothing, Volume}
 use Rattle.input_volume_controller.specs.ClippedRatio.{clipped_ratio_of}
 use Rattle.input_volume_controller.specs.Volumes.{numbers_of, numbers_in}
 use Rattle.input_volume_controller.specs.Control.{Control}
@@ -80,18 +76,18 @@ used_blind true samples lent c =
     alike (unless_waiting waiting clipped) (waiting_blind waiting clipped) _ _ (λ i. record { control = c.control; predictor = entered_uncounted samples lent c.predictor i })
 used_blind false samples lent c = record { reply = refl; state = again c.control c.predictor }
 
-frame_blind : (o : Outcome) (volumes : List ℕ) (samples : ℕ) (lent : List Float) (c : Controller)
+frame_blind : (o : Result (Unit {0}) Refusal) (volumes : List ℕ) (samples : ℕ) (lent : List Float) (c : Controller)
     → EqualUncounted (unless_refused o volumes samples lent (uncounted_in c)) (unless_refused o volumes samples lent c)
-frame_blind (Refused cause) volumes samples lent c = record { reply = refl; state = again c.control c.predictor }
-frame_blind Accepted volumes samples lent c = used_blind c.control.used samples lent (with_volumes_applied volumes c)
+frame_blind (Err cause) volumes samples lent c = record { reply = refl; state = again c.control c.predictor }
+frame_blind (Ok tt) volumes samples lent c = used_blind c.control.used samples lent (with_volumes_applied volumes c)
 
-recommended_blind : (used : Bool) (applied : ℕ) (probability : Float) (level : SpeechLevel) (c : Controller) → EqualUncounted (recommend_if used applied probability level (uncounted_in c)) (recommend_if used applied probability level c)
+recommended_blind : (used : Bool) (applied : ℕ) (probability : Float) (level : Option Float) (c : Controller) → EqualUncounted (recommend_if used applied probability level (uncounted_in c)) (recommend_if used applied probability level c)
 recommended_blind true applied probability level c = record { reply = refl; state = again _ c.predictor }
 recommended_blind false applied probability level c = record { reply = refl; state = again _ c.predictor }
 
-asked_blind : (a : Applied) (probability : Float) (level : SpeechLevel) (c : Controller) → EqualUncounted (unless_none a probability level (uncounted_in c)) (unless_none a probability level c)
-asked_blind Nothing probability level c = record { reply = refl; state = again c.control c.predictor }
-asked_blind (Volume applied) probability level c = recommended_blind c.control.used applied probability level c
+asked_blind : (a : Option ℕ) (probability : Float) (level : Option Float) (c : Controller) → EqualUncounted (unless_none a probability level (uncounted_in c)) (unless_none a probability level c)
+asked_blind None probability level c = record { reply = refl; state = again c.control c.predictor }
+asked_blind (Some applied) probability level c = recommended_blind c.control.used applied probability level c
 
 step_blind : (call : Call) (c : Controller) → EqualUncounted (step (uncounted_in c) call) (step c call)
 unfolding analyze_input_audio recommend_input_volume
@@ -120,7 +116,7 @@ counts_are_unread = record {
 
 -- ---- how large
 
-metrics_most : (capacity delay n : ℕ) (records : List Level) (a b : Bool) (m : Level) → capacity ≤ 64 → Counted records → (leb 1 n && leb (delay + n) capacity) ≡ a → metrics_if a (found_if b (take n (drop delay records))) ≡ Found m → m.clipped ≤ 30720
+metrics_most : (capacity delay n : ℕ) (records : List Level) (a b : Bool) (m : Level) → capacity ≤ 64 → Counted records → (leb 1 n && leb (delay + n) capacity) ≡ a → metrics_if a (found_if b (take n (drop delay records))) ≡ Ok (Some m) → m.clipped ≤ 30720
 unfolding metrics_over
 metrics_most capacity delay n records true true m high k t e =
     let items = take n (drop delay records) in
@@ -132,7 +128,7 @@ metrics_most capacity delay n records true true m high k t e =
 metrics_most capacity delay n records true false m high k t e = let z : ◌≡◌ {A = ℕ} 0 1 = cc in absurd (omega arith)
 metrics_most capacity delay n records false b m high k t e = let z : ◌≡◌ {A = ℕ} 0 1 = cc in absurd (omega arith)
 
-totals : (capacity : ℕ) (records : List Level) (delay items : ℤ) (m : Level) → capacity ≤ 64 → Counted records → compute_partial_metrics capacity records delay items ≡ Found m → m.clipped ≤ 30720
+totals : (capacity : ℕ) (records : List Level) (delay items : ℤ) (m : Level) → capacity ≤ 64 → Counted records → compute_partial_metrics capacity records delay items ≡ Ok (Some m) → m.clipped ≤ 30720
 unfolding compute_partial_metrics partial_metrics
 totals capacity records (pos delay) (pos n) m high k e = metrics_most capacity delay n records _ (leb (delay + n) (length records)) m high k refl e
 totals capacity records (pos delay) (negsuc n) m high k e = let z : ◌≡◌ {A = ℕ} 0 1 = cc in absurd (omega arith)

@@ -6,12 +6,9 @@ use Prim.Native.Nat.{ℕ, ◌<◌}
 use native.Mathlib.Omega.{arith}
 use lib.Ieee.{Float}
 use lib.ListN.{length, get_or, replicate, get_or-replicate}
-use Rattle.numbers.specs.declared.refusal.Outcome.{Outcome}
-use Rattle.numbers.specs.declared.refusal.Outcome.TheVariants.{Accepted, Refused}
+use Rattle.std.specs.Prelude.{Err, None, Ok, Option, Result, Some}
+use Rattle.numbers.specs.declared.refusal.Refusal.{Refusal}
 use Rattle.mono_input_volume_controller.specs.declared.mono.MonoInputVolumeController.{MonoInputVolumeController}
-use Rattle.mono_input_volume_controller.specs.declared.speech_level.SpeechLevel.{SpeechLevel}
-use Rattle.input_volume_controller.specs.declared.Applied.{Applied}
-use Rattle.input_volume_controller.specs.declared.Applied.TheVariants.{Nothing, Volume}
 use Rattle.input_volume_controller.specs.Volumes.{numbers_of, numbers_in}
 use Rattle.input_volume_controller.specs.Channels.{no_channel}
 use Rattle.input_volume_controller.specs.Control.{with_volume}
@@ -40,20 +37,20 @@ record EqualBare (a b : Stepped) : Type 0 where
   state : bare a.state ≡ bare b.state
 
 -- each call does with the bare controller what it does with the whole
-bare_frame : (o : Outcome) (volumes : List ℕ) (samples : ℕ) (lent : List Float) (c : Controller) → EqualBare (unless_refused o volumes samples lent (bare c)) (unless_refused o volumes samples lent c)
+bare_frame : (o : Result (Unit {0}) Refusal) (volumes : List ℕ) (samples : ℕ) (lent : List Float) (c : Controller) → EqualBare (unless_refused o volumes samples lent (bare c)) (unless_refused o volumes samples lent c)
 unfolding with_applied_input_volumes aggregated
-bare_frame (Refused cause) volumes samples lent c = record { reply = refl; state = refl }
-bare_frame Accepted volumes samples lent c = record { reply = refl; state = refl }
+bare_frame (Err cause) volumes samples lent c = record { reply = refl; state = refl }
+bare_frame (Ok tt) volumes samples lent c = record { reply = refl; state = refl }
 
-bare_recommends : (used : Bool) (applied : ℕ) (probability : Float) (level : SpeechLevel) (c : Controller)
+bare_recommends : (used : Bool) (applied : ℕ) (probability : Float) (level : Option Float) (c : Controller)
     → EqualBare (recommend_if used applied probability level (bare c)) (recommend_if used applied probability level c)
 unfolding process_channels aggregated
 bare_recommends true applied probability level c = record { reply = refl; state = refl }
 bare_recommends false applied probability level c = record { reply = refl; state = refl }
 
-bare_asked : (a : Applied) (probability : Float) (level : SpeechLevel) (c : Controller) → EqualBare (unless_none a probability level (bare c)) (unless_none a probability level c)
-bare_asked Nothing probability level c = record { reply = refl; state = refl }
-bare_asked (Volume applied) probability level c = bare_recommends c.control.used applied probability level c
+bare_asked : (a : Option ℕ) (probability : Float) (level : Option Float) (c : Controller) → EqualBare (unless_none a probability level (bare c)) (unless_none a probability level c)
+bare_asked None probability level c = record { reply = refl; state = refl }
+bare_asked (Some applied) probability level c = bare_recommends c.control.used applied probability level c
 
 bare_step : (c : Controller) (call : Call) → EqualBare (step (bare c) call) (step c call)
 unfolding analyze_input_audio recommend_input_volume initialize aggregated

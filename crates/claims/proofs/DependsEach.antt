@@ -9,8 +9,8 @@ use lib.Dec.{eqb, eqb→eq}
 use lib.IntN.{ℤ, pos, nat_abs}
 use lib.Ieee.{fin, add, mul, div, lt, le, of_int, of_bits}
 use lib.ListN.{length}
+use Rattle.std.specs.Prelude.{None, Ok, Some}
 use Rattle.numbers.specs.Listed.{listed}
-use Rattle.numbers.specs.declared.natural.Natural.TheVariants.{Number}
 use Rattle.numbers.specs.Natural.{within_of}
 use Rattle.levels.specs.Decibels.{minus, less, at_most, within}
 use Rattle.levels.specs.FloatParts.{magnitude_of}
@@ -25,8 +25,6 @@ use Rattle.clipping_predictor.specs.Turned.{estimated}
 use Rattle.clipping_predictor.specs.Estimate.{drop_by, adaptive_drop, estimate_tree}
 use Rattle.clipping_predictor.specs.Predictor.{max_channels, push_each, frame_fits}
 use Rattle.mono_input_volume_controller.specs.declared.config.Config.{Config}
-use Rattle.mono_input_volume_controller.specs.declared.config.Checked.TheVariants.{InOrder}
-use Rattle.mono_input_volume_controller.specs.declared.speech_level.SpeechLevel.TheVariants.{Absent}
 use Rattle.mono_input_volume_controller.specs.SpeechLevel.{rms_error_of}
 use Rattle.mono_input_volume_controller.specs.Mono.{is_users}
 use Rattle.mono_input_volume_controller.specs.Config.{defaults, settings_from, settings_of}
@@ -60,7 +58,7 @@ abbrev made_with : Config → List Call → History
 made_with config calls = record { predictor = predictor_settings (settings_from config).predicts; settings = settings_from config; channels = 1; calls = calls }
 
 abbrev InRange : Config → Type 0
-InRange config = settings_of config ≡ InOrder (settings_from config)
+InRange config = settings_of config ≡ Ok (settings_from config)
 
 by_default : (config : Config) (calls : List Call) → InRange config → Taken (made_with config calls)
 by_default config calls e = record { config = config; predictor = base_predictor; made = taken config base_predictor (settings_from config) _ e (base_checked (settings_from config).predicts) }
@@ -143,7 +141,7 @@ record Example (part : Part) : Type 0 where
 
 -- a recommendation without speech
 abbrev silent : Call
-silent = recommendation plus_zero Absent
+silent = recommendation plus_zero None
 
 -- one for each part, in a record: as clauses of one function they take more than twice as long to check
 record Examples : Type 0 where
@@ -313,7 +311,7 @@ even = of_two (still_at 50 50 ∷ silent ∷ [])
 record Uneven : Type 0 where
   agree : Facts Never uneven even
   in_range : InRange defaults
-  two_channels : within_of 1 max_channels (pos 2) ≡ Number 2
+  two_channels : within_of 1 max_channels (pos 2) ≡ Some 2
   one_shows : shown uneven (clipped_at 100 ∷ silent ∷ []) ≡ 85
   other_shows : shown even (clipped_at 100 ∷ silent ∷ []) ≡ 100
 

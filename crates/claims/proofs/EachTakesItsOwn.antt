@@ -2,7 +2,6 @@
 use mathlib.Core.Path.{◌≡◌, refl, ap, ◌∙◌}
 use mathlib.Core.Bool.{Bool, true, false, ◌||◌}
 use mathlib.Core.List.{List, [], ◌∷◌, map}
-use mathlib.Core.Option.{Option, none, some}
 use Prim.Native.Nat.{ℕ, zero, suc, ◌<◌, max}
 use native.Mathlib.Nat.{not-suc-le-zero, le_of_suc-le-suc}
 use native.Mathlib.Omega.{arith}
@@ -10,13 +9,13 @@ use lib.Dec.{ltb}
 use lib.IntN.{pos, nat_abs}
 use lib.Ieee.{Float, lt}
 use lib.ListN.{length, get_or, length-map, get_or-map}
+use Rattle.std.specs.Prelude.{Option, None, Some}
 use Rattle.numbers.proofs.Signs.{clash}
 use Rattle.clipping_predictor.specs.Predictor.{entered_if}
 use Rattle.clipping_predictor.specs.AllRings.{predicted_by}
 use Rattle.mono_input_volume_controller.specs.declared.mono.MonoInputVolumeController.{MonoInputVolumeController}
-use Rattle.input_volume_controller.specs.declared.channels.ChannelCall.TheVariants.{StreamAnalogLevel, Clipping}
+use Rattle.input_volume_controller.specs.Channels.{StreamAnalogLevel, Clipping, no_channel, called, each_called, each_given}
 use Rattle.input_volume_controller.specs.ClippedRatio.{clipped_ratio_of}
-use Rattle.input_volume_controller.specs.Channels.{no_channel, called, each_called, each_given}
 use Rattle.input_volume_controller.specs.ControlCalls.{aggregated, with_applied_input_volumes, lower_channels}
 use Rattle.input_volume_controller.specs.Controller.{Controller}
 use Rattle.input_volume_controller.specs.Reply.{Stepped}
@@ -30,22 +29,22 @@ use Rattle.claims.proofs.Runs.{step_accepted}
 -- ---- all channels lowered, or none
 
 abbrev lowered_all : Option ℕ → List MonoInputVolumeController → List MonoInputVolumeController
-lowered_all none ms = ms
-lowered_all (some amount) ms = each_called (Clipping amount) ms
+lowered_all None ms = ms
+lowered_all (Some amount) ms = each_called (Clipping amount) ms
 
 -- with capture on or off: none with capture off
 record Lowered (used : Bool) (before after : List MonoInputVolumeController) : Type 0 where
   lowering : Option ℕ
-  off : used ≡ false → lowering ≡ none
+  off : used ≡ false → lowering ≡ None
   is : after ≡ lowered_all lowering before
 
 lowered_handled : (t : Bool) (amount : ℕ) (c : Controller) → Lowered true c.control.channels (handle_if t amount c).control.channels
 unfolding lower_channels aggregated
-lowered_handled true amount c = record { lowering = some amount; off = λ e. clash e; is = refl }
-lowered_handled false amount c = record { lowering = none; off = λ e. refl; is = refl }
+lowered_handled true amount c = record { lowering = Some amount; off = λ e. clash e; is = refl }
+lowered_handled false amount c = record { lowering = None; off = λ e. refl; is = refl }
 
 lowered_waiting : (t clipped : Bool) (c : Controller) → Lowered true c.control.channels (unless_waiting t clipped c).state.control.channels
-lowered_waiting true clipped c = record { lowering = none; off = λ e. refl; is = refl }
+lowered_waiting true clipped c = record { lowering = None; off = λ e. refl; is = refl }
 lowered_waiting false clipped c =
     let e = predicted_by (asked_of c.control) c.predictor in
     lowered_handled (clipped || ltb 0 e.drop) (max c.control.settings.step e.drop) c
@@ -54,13 +53,13 @@ lowered_used : (t : Bool) (samples : ℕ) (lent : List Float) (c : Controller) �
 lowered_used true samples lent c =
     lowered_waiting (ltb c.control.since c.control.settings.clipped_wait) (lt c.control.settings.clipped_ratio (clipped_ratio_of (length c.control.channels) samples lent))
     (record { control = c.control; predictor = entered_if true samples lent c.predictor })
-lowered_used false samples lent c = record { lowering = none; off = λ e. refl; is = refl }
+lowered_used false samples lent c = record { lowering = None; off = λ e. refl; is = refl }
 
 -- ---- place by place
 
 length_lowered : (lowering : Option ℕ) (ms : List MonoInputVolumeController) → length (lowered_all lowering ms) ≡ length ms
-length_lowered none ms = refl
-length_lowered (some amount) ms = length-map ms (called (Clipping amount))
+length_lowered None ms = refl
+length_lowered (Some amount) ms = length-map ms (called (Clipping amount))
 
 mapped_at : (f : MonoInputVolumeController → MonoInputVolumeController) (ms : List MonoInputVolumeController) (i : ℕ) → i < length ms → get_or (map f ms) i no_channel ≡ f (get_or ms i no_channel)
 mapped_at f [] i h = absurd (not-suc-le-zero h)
@@ -68,8 +67,8 @@ mapped_at f (m ∷ ms) zero h = refl
 mapped_at f (m ∷ ms) (suc i) h = mapped_at f ms i (le_of_suc-le-suc h)
 
 lowered_at : (lowering : Option ℕ) (ms : List MonoInputVolumeController) (i : ℕ) → i < length ms → get_or (lowered_all lowering ms) i no_channel ≡ lowered_by lowering (get_or ms i no_channel)
-lowered_at none ms i h = refl
-lowered_at (some amount) ms i h = mapped_at (called (Clipping amount)) ms i h
+lowered_at None ms i h = refl
+lowered_at (Some amount) ms i h = mapped_at (called (Clipping amount)) ms i h
 
 given_at : (vs : List ℕ) (ms : List MonoInputVolumeController) (i : ℕ) → length vs ≡ length ms → i < length ms
     → get_or (each_given vs ms) i no_channel ≡ called (StreamAnalogLevel (get_or vs i 0)) (get_or ms i no_channel)

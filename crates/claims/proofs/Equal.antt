@@ -12,10 +12,8 @@ use Rattle.mono_input_volume_controller.specs.declared.mono.MonoInputVolumeContr
 use Rattle.mono_input_volume_controller.specs.SpeechLevel.{rms_error_of}
 use Rattle.mono_input_volume_controller.specs.Mono.{created}
 use Rattle.input_volume_controller.specs.declared.limits.Limits.{Limits}
-use Rattle.input_volume_controller.specs.declared.channels.ChannelCall.{ChannelCall}
-use Rattle.input_volume_controller.specs.declared.channels.ChannelCall.TheVariants.{Initialize, CaptureOutputUsed, StreamAnalogLevel, Clipping, Process}
+use Rattle.input_volume_controller.specs.Channels.{ChannelCall, Initialize, CaptureOutputUsed, StreamAnalogLevel, Clipping, Process, no_channel, called, each_called, each_given, aggregate_of}
 use Rattle.input_volume_controller.specs.declared.channels.Aggregate.{Aggregate}
-use Rattle.input_volume_controller.specs.Channels.{no_channel, called, each_called, each_given, aggregate_of}
 use Rattle.input_volume_controller.specs.Control.{Control}
 use Rattle.input_volume_controller.specs.ControlCalls.{aggregated, with_applied_input_volumes, initialize, lower_channels, process_channels}
 use Rattle.input_volume_controller.specs.Controller.{Controller, fresh_with}

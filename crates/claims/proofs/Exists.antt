@@ -13,6 +13,7 @@ use lib.Signed.{lt_z, le_z}
 use lib.Ieee.{Float, nan, inf, fin, up, down, le, lt, eq, of_int}
 use lib.Ieee.Fits.{eq→eqb}
 use lib.ListN.{length, length-map, take, drop, replicate, length-replicate}
+use Rattle.std.specs.Prelude.{None}
 use Rattle.numbers.proofs.Truths.{and_false}
 use Rattle.numbers.specs.Natural.{within_of}
 use Rattle.numbers.specs.Listed.{listed}
@@ -25,7 +26,6 @@ use Rattle.clipping_predictor_level_buffer.specs.Statistics.{plus_zero, largest}
 use Rattle.clipping_predictor_level_buffer.specs.Level.{frame_record}
 use Rattle.clipping_predictor.specs.declared.settings.Settings as Predictor
 use Rattle.clipping_predictor.specs.Predictor.{part_of, levels_of, frame_fits}
-use Rattle.mono_input_volume_controller.specs.declared.speech_level.SpeechLevel.TheVariants.{Absent}
 use Rattle.clipping_predictor_level_buffer.specs.Clipped.{one_if}
 use Rattle.input_volume_controller.specs.declared.limits.Limits.{Limits}
 use Rattle.input_volume_controller.specs.Volumes.{Volumes, are_numbers, numbers_of}
@@ -117,7 +117,7 @@ module _ (most : Limits) (channels : ℕ) (takes : TakesOneSample most channels)
             samples = 1;
             lent = silence channels;
             probability = plus_zero;
-            level = Absent;
+            level = None;
             calm = all_replicate (is_calm channels is_still) frames silent_frame silence_calm;
             long = le_of_eq (sym exactly);
             accepted = silence_accepted;

@@ -4,21 +4,18 @@ use mathlib.Core.Bool.{Bool}
 use Prim.Native.Nat.{ℕ, ◌≤◌}
 use lib.Dec.{lit≤, lit<}
 use lib.IntN.{ℤ}
-use Rattle.numbers.specs.declared.natural.Natural.{Natural}
-use Rattle.numbers.specs.declared.natural.Natural.TheVariants.{Number, Outside}
+use Rattle.std.specs.Prelude.{Err, None, Ok, Option, Result, Some}
+use Rattle.numbers.specs.declared.refusal.Refusal.{Refusal}
 use Rattle.numbers.specs.Natural.{within_of}
 use Rattle.numbers.proofs.Ranges.{told}
 use Rattle.clipping_predictor.specs.declared.settings.ClippingPredictorConfig.{ClippingPredictorConfig}
 use Rattle.clipping_predictor.specs.declared.settings.Settings as Predictor
-use Rattle.clipping_predictor.specs.declared.settings.Checked as PredictorCheck
-use Rattle.clipping_predictor.specs.declared.settings.Checked.TheVariants as PredictorChecked
 use Rattle.clipping_predictor.specs.Settings as Predictors
 use Rattle.clipping_predictor.specs.Predictor.{max_channels}
 use Rattle.clipping_predictor.proofs.Rings as PredictorRings
 use Rattle.mono_input_volume_controller.specs.declared.config.Config.{Config}
 use Rattle.mono_input_volume_controller.specs.declared.profile.Profile.{Profile}
 use Rattle.mono_input_volume_controller.specs.declared.config.Settings.{Settings}
-use Rattle.mono_input_volume_controller.specs.declared.config.Checked.{Checked}
 use Rattle.mono_input_volume_controller.specs.Config.{defaults, settings_from, settings_of}
 use Rattle.mono_input_volume_controller.specs.Config as Configs
 use Rattle.mono_input_volume_controller.proofs.Checked.{defaults_in_order, good_settings, checked_good}
@@ -52,10 +49,10 @@ unmade_fresh = record {
   high = lit≤ tt;
 }
 
-with_fresh : (predictor : ClippingPredictorConfig) (n : ℕ) (s : Settings) (k : PredictorCheck.Checked) → Predictors.settings_of predictor ≡ k → Configs.Good s → 1 ≤ n → n ≤ max_channels → IsFresh (made_with n s k).controller
+with_fresh : (predictor : ClippingPredictorConfig) (n : ℕ) (s : Settings) (k : Result Predictor.Settings Refusal) → Predictors.settings_of predictor ≡ k → Configs.Good s → 1 ≤ n → n ≤ max_channels → IsFresh (made_with n s k).controller
 unfolding made_with
-with_fresh predictor n s (PredictorChecked.Refused cause) e g low high = unmade_fresh
-with_fresh predictor n s (PredictorChecked.InOrder p) e g low high = record {
+with_fresh predictor n s (Err cause) e g low high = unmade_fresh
+with_fresh predictor n s (Ok p) e g low high = record {
   predictor = p;
   settings = s;
   count = n;
@@ -66,12 +63,12 @@ with_fresh predictor n s (PredictorChecked.InOrder p) e g low high = record {
   high = high;
 }
 
-made_fresh : (channels : ℤ) (config : Config) (predictor : ClippingPredictorConfig) (v : Natural) (checked : Checked) → within_of 1 max_channels channels ≡ v → settings_of config ≡ checked
+made_fresh : (channels : ℤ) (config : Config) (predictor : ClippingPredictorConfig) (v : Option ℕ) (checked : Result Settings Refusal) → within_of 1 max_channels channels ≡ v → settings_of config ≡ checked
     → IsFresh (made_of v checked predictor).controller
 unfolding made_of
-made_fresh channels config predictor Outside checked e f = unmade_fresh
-made_fresh channels config predictor (Number n) (Checked.Refused cause) e f = unmade_fresh
-made_fresh channels config predictor (Number n) (Checked.InOrder s) e f =
+made_fresh channels config predictor None checked e f = unmade_fresh
+made_fresh channels config predictor (Some n) (Err cause) e f = unmade_fresh
+made_fresh channels config predictor (Some n) (Ok s) e f =
     let t = told 1 max_channels channels n e in
     with_fresh (switched s.predicts predictor) n s _ refl (checked_good config s f) t.least t.most
 

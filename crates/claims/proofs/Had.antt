@@ -2,9 +2,9 @@
 use mathlib.Core.Path.{◌≡◌, sym, ap, ◌∙◌}
 use mathlib.Core.List.{List}
 use lib.IntN.{ℤ}
-use Rattle.numbers.specs.declared.refusal.Outcome.TheVariants.{Accepted}
-use Rattle.numbers.specs.Said.{outcome_says}
-use Rattle.numbers.proofs.Said.{outcome_fixed}
+use Rattle.std.specs.Prelude.{Ok}
+use Rattle.numbers.specs.Said.{said}
+use Rattle.numbers.proofs.Said.{said_fixed}
 use Rattle.clipping_predictor.specs.declared.settings.ClippingPredictorConfig.{ClippingPredictorConfig}
 use Rattle.mono_input_volume_controller.specs.declared.config.Config.{Config}
 use Rattle.mono_input_volume_controller.specs.declared.profile.Profile.{Profile}
@@ -24,5 +24,5 @@ module _ (profile : Profile) (channels : ℤ) (config : Config) (predictor : Cli
   pub had_stands : view_of c ≡ after (making_in profile channels config predictor).controller calls
   had_stands = had_run.view ∙ ap (λ (x : Controller). after x calls) m.created.view
 
-  pub had_accepted : (making_in profile channels config predictor).answer ≡ Accepted
-  had_accepted = outcome_fixed _ _ (sym m.created.answer ∙ ap outcome_says m.accepted)
+  pub had_accepted : (making_in profile channels config predictor).answer ≡ Ok tt
+  had_accepted = said_fixed _ _ (sym m.created.answer ∙ ap said m.accepted)

@@ -7,8 +7,8 @@ use native.Mathlib.Omega.{arith}
 use lib.IntN.{ℤ}
 use lib.Signed.{le_z}
 use lib.ListN.{get_or}
-use Rattle.numbers.specs.declared.refusal.Outcome.{Outcome}
-use Rattle.numbers.specs.declared.refusal.Outcome.TheVariants.{Accepted, Refused}
+use Rattle.std.specs.Prelude.{Err, Ok, Result}
+use Rattle.numbers.specs.declared.refusal.Refusal.{Refusal}
 use Rattle.numbers.proofs.Truths.{both_true}
 use Rattle.clipping_predictor.specs.declared.settings.ClippingPredictorConfig.{ClippingPredictorConfig}
 use Rattle.mono_input_volume_controller.specs.declared.config.Config.{Config}
@@ -26,16 +26,16 @@ record Plainly (taken : Bool) (plain within : Making) : Type 0 where
   same : within ≡ plain
   takes_all : taken ≡ true
 
-outside_plainly : (o : Outcome) (plain : Making) → plain.answer ≡ o → (refused_outside o plain).answer ≡ Accepted → Plainly false plain (refused_outside o plain)
-outside_plainly Accepted plain e h = let z : ◌≡◌ {A = ℕ} 0 1 = cc in absurd (omega arith)
-outside_plainly (Refused cause) plain e h = let z : ◌≡◌ {A = ℕ} 0 1 = cc in absurd (omega arith)
+outside_plainly : (o : Result (Unit {0}) Refusal) (plain : Making) → plain.answer ≡ o → (refused_outside o plain).answer ≡ Ok tt → Plainly false plain (refused_outside o plain)
+outside_plainly (Ok tt) plain e h = let z : ◌≡◌ {A = ℕ} 0 1 = cc in absurd (omega arith)
+outside_plainly (Err cause) plain e h = let z : ◌≡◌ {A = ℕ} 0 1 = cc in absurd (omega arith)
 
-plainly : (taken : Bool) (plain : Making) → (within_profile taken plain).answer ≡ Accepted → Plainly taken plain (within_profile taken plain)
+plainly : (taken : Bool) (plain : Making) → (within_profile taken plain).answer ≡ Ok tt → Plainly taken plain (within_profile taken plain)
 plainly true plain h = record { same = refl; takes_all = refl }
 plainly false plain h = outside_plainly plain.answer plain refl h
 
 module _ (profile : Profile) (channels : ℤ) (config : Config) (predictor : ClippingPredictorConfig) where
-  module _ (h : (making_in profile channels config predictor).answer ≡ Accepted) where
+  module _ (h : (making_in profile channels config predictor).answer ≡ Ok tt) where
     pub in_profile_taken : takes profile config ≡ true
     in_profile_taken = (plainly (takes profile config) (making_with channels config predictor) h).takes_all
 
@@ -43,14 +43,14 @@ module _ (profile : Profile) (channels : ℤ) (config : Config) (predictor : Cli
     in_profile_same = (plainly (takes profile config) (making_with channels config predictor) h).same
 
     -- what is true of accepted plain makings
-    pub by_plain : (P : Making → Type 0) → ((making_with channels config predictor).answer ≡ Accepted → P (making_with channels config predictor)) → P (making_in profile channels config predictor)
+    pub by_plain : (P : Making → Type 0) → ((making_with channels config predictor).answer ≡ Ok tt → P (making_with channels config predictor)) → P (making_in profile channels config predictor)
     by_plain P f = subst P (sym in_profile_same) (f (sym (ap (λ (m : Making). m.answer) in_profile_same) ∙ h))
 
   -- what is true of every plain making's controller, and so of the one beside a refusal
   module _ (P : Controller → Type 0) (made : P (making_with channels config predictor).controller) (unmade : P (fresh (settings_from defaults) 1)) where
-    outside_any : (o : Outcome) → P (refused_outside o (making_with channels config predictor)).controller
-    outside_any Accepted = unmade
-    outside_any (Refused cause) = made
+    outside_any : (o : Result (Unit {0}) Refusal) → P (refused_outside o (making_with channels config predictor)).controller
+    outside_any (Ok tt) = unmade
+    outside_any (Err cause) = made
 
     within_any : (taken : Bool) → P (within_profile taken (making_with channels config predictor)).controller
     within_any true = made

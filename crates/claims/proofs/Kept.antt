@@ -10,17 +10,14 @@ use lib.Dec.{ltb}
 use borrow.Author.Tests.{ltb-true}
 use lib.Ieee.{Float, lt}
 use lib.ListN.{length, replicate, length-take, length-map, length-replicate}
-use Rattle.numbers.specs.declared.refusal.Outcome.{Outcome}
-use Rattle.numbers.specs.declared.refusal.Outcome.TheVariants.{Accepted, Refused}
+use Rattle.std.specs.Prelude.{Err, None, Ok, Option, Result, Some}
+use Rattle.numbers.specs.declared.refusal.Refusal.{Refusal}
 use Rattle.clipping_predictor_level_buffer.specs.declared.level.Level.{Level}
 use Rattle.clipping_predictor.specs.declared.modes.Estimated.{Estimated}
 use Rattle.clipping_predictor.specs.declared.settings.Settings as Predictor
 use Rattle.clipping_predictor.specs.Estimate.{capacity_of}
 use Rattle.clipping_predictor.specs.Predictor.{levels_of, push_each, entered_if}
 use Rattle.mono_input_volume_controller.specs.declared.config.Settings.{Settings}
-use Rattle.mono_input_volume_controller.specs.declared.speech_level.SpeechLevel.{SpeechLevel}
-use Rattle.input_volume_controller.specs.declared.Applied.{Applied}
-use Rattle.input_volume_controller.specs.declared.Applied.TheVariants.{Nothing, Volume}
 use Rattle.input_volume_controller.specs.ClippedRatio.{clipped_ratio_of}
 use Rattle.mono_input_volume_controller.specs.Mono.{created}
 use Rattle.input_volume_controller.specs.Control.{Control}
@@ -88,7 +85,7 @@ module _ (s : Settings) (n : ℕ) where
   unfolding lower_channels aggregated
   kept_lowered amount c k = record { settings = k.settings; cores = cores_called _ c.channels ∙ k.cores; early = zero-le }
 
-  kept_processed : (probability : Float) (level : SpeechLevel) (c : Control) → KeptControl s n c → KeptControl s n (process_channels probability level c)
+  kept_processed : (probability : Float) (level : Option Float) (c : Control) → KeptControl s n c → KeptControl s n (process_channels probability level c)
   unfolding process_channels aggregated
   kept_processed probability level c k = record { settings = k.settings; cores = cores_called _ c.channels ∙ k.cores; early = k.early }
 
@@ -159,21 +156,21 @@ module _ (p : Predictor.Settings) (s : Settings) (n : ℕ) where
       (ltb-true c.control.since c.control.settings.clipped_wait) (kept_entered samples lent c k)
   kept_used false samples lent c k = k
 
-  kept_frame : (o : Outcome) (volumes : List ℕ) (samples : ℕ) (lent : List Float) (c : Controller) → K c → K (unless_refused o volumes samples lent c).state
-  kept_frame (Refused cause) volumes samples lent c k = k
-  kept_frame Accepted volumes samples lent c k =
+  kept_frame : (o : Result (Unit {0}) Refusal) (volumes : List ℕ) (samples : ℕ) (lent : List Float) (c : Controller) → K c → K (unless_refused o volumes samples lent c).state
+  kept_frame (Err cause) volumes samples lent c k = k
+  kept_frame (Ok tt) volumes samples lent c k =
       kept_used c.control.used samples lent (with_volumes_applied volumes c)
       (with_control (with_applied_input_volumes volumes c.control) c (kept_applied s n volumes c.control k.control) k)
 
-  kept_recommended : (t : Bool) (applied : ℕ) (probability : Float) (level : SpeechLevel) (c : Controller) → K c → K (recommend_if t applied probability level c).state
+  kept_recommended : (t : Bool) (applied : ℕ) (probability : Float) (level : Option Float) (c : Controller) → K c → K (recommend_if t applied probability level c).state
   kept_recommended true applied probability level c k =
       let q = kept_processed s n probability level c.control k.control in
       with_control _ c (record { settings = q.settings; cores = q.cores; early = q.early }) k
   kept_recommended false applied probability level c k = with_control _ c (kept_aggregated s n c.control k.control) k
 
-  kept_asked : (a : Applied) (probability : Float) (level : SpeechLevel) (c : Controller) → K c → K (unless_none a probability level c).state
-  kept_asked Nothing probability level c k = k
-  kept_asked (Volume applied) probability level c k = kept_recommended c.control.used applied probability level c k
+  kept_asked : (a : Option ℕ) (probability : Float) (level : Option Float) (c : Controller) → K c → K (unless_none a probability level c).state
+  kept_asked None probability level c k = k
+  kept_asked (Some applied) probability level c k = kept_recommended c.control.used applied probability level c k
 
   pub kept_step : (call : Call) (c : Controller) → K c → K (step c call).state
   unfolding analyze_input_audio recommend_input_volume

@@ -3,10 +3,10 @@ use mathlib.Core.Path.{◌≡◌, refl, sym, ◌∙◌}
 use mathlib.Core.List.{List, [], ◌∷◌}
 use native.Mathlib.Omega.{arith}
 use lib.IntN.{ℤ}
+use Rattle.std.specs.Prelude.{Err, Ok, Result}
 use Rattle.numbers.specs.declared.refusal.Refusal.{Refusal}
-use Rattle.numbers.specs.declared.refusal.Outcome.{Outcome}
-use Rattle.numbers.specs.Said.{outcome_says}
 use Rattle.numbers.proofs.Said.{numbered}
+use Rattle.numbers.specs.Said.{said}
 use Rattle.clipping_predictor.specs.declared.settings.ClippingPredictorConfig.{ClippingPredictorConfig}
 use Rattle.mono_input_volume_controller.specs.declared.config.Config.{Config}
 use Rattle.mono_input_volume_controller.specs.declared.profile.Profile.{Profile}
@@ -61,12 +61,12 @@ runs_as good (next {d = d} one rest) =
 -- ---- the making
 
 -- no refusal has the number 0
-refused_not_zero : (cause : Refusal) → outcome_number (outcome_says (Outcome.Refused cause)) ≡ 0 → ⊥
+refused_not_zero : (cause : Refusal) → outcome_number (said (Err cause)) ≡ 0 → ⊥
 refused_not_zero cause e = omega (arith, (numbered cause).least, e)
 
-accepted_at_zero : (answer : Outcome) → outcome_number (outcome_says answer) ≡ 0 → answer ≡ Outcome.Accepted
-accepted_at_zero Outcome.Accepted e = refl
-accepted_at_zero (Outcome.Refused cause) e = absurd (refused_not_zero cause e)
+accepted_at_zero : (answer : Result (Unit {0}) Refusal) → outcome_number (said answer) ≡ 0 → answer ≡ Ok tt
+accepted_at_zero (Ok tt) e = refl
+accepted_at_zero (Err cause) e = absurd (refused_not_zero cause e)
 
 -- what the library's making hands back is what the controller's would
 abbrev pub made_created : (profile : Profile) (channels : ℤ) (config : Config) (predictor : ClippingPredictorConfig) (c : Agc2Controller) → CreatedIn profile channels config predictor c

@@ -9,9 +9,7 @@ use native.Mathlib.Omega.{arith}
 use lib.IntN.{ℤ, pos, nat_abs}
 use lib.Ieee.{Float}
 use lib.ListN.{length, get_or, length-map, get_or-map}
-use Rattle.input_volume_controller.specs.declared.Applied.{Applied}
-use Rattle.input_volume_controller.specs.declared.Applied.TheVariants.{Volume}
-use Rattle.mono_input_volume_controller.specs.declared.speech_level.SpeechLevel.{SpeechLevel}
+use Rattle.std.specs.Prelude.{Option, Some}
 use Rattle.input_volume_controller.specs.Volumes.{lowest_from, lowest_of}
 use Rattle.input_volume_controller.specs.Control.{Control}
 use Rattle.input_volume_controller.specs.ControlCalls.{aggregated, with_applied_input_volumes, lower_channels}
@@ -67,17 +65,17 @@ lowest_of_lem (v ∷ vs) h = lowest_from_lem v vs
 -- ---- the frame
 
 abbrev Pending : ℕ → Control → Type 0
-Pending low c = c.applied ≡ Volume low
+Pending low c = c.applied ≡ Some low
 
 pending_on : (low : ℕ) → Hears (Pending low)
 unfolding lower_channels aggregated
 pending_on low = record { lowers = λ by c h. h; counts = λ c h. h }
 
-repeated : (c : Controller) (low : ℕ) → c.control.applied ≡ Volume low → c.control.used ≡ false → (probability : Float) (level : SpeechLevel)
+repeated : (c : Controller) (low : ℕ) → c.control.applied ≡ Some low → c.control.used ≡ false → (probability : Float) (level : Option Float)
     → (step c (recommendation probability level)).reply ≡ volume (pos low)
 unfolding recommend_input_volume
 repeated c low e off probability level =
-    ap (λ (a : Applied). (unless_none a probability level c).reply) e ∙ ap (λ (used : Bool). (recommend_if used low probability level c).reply) off
+    ap (λ (a : Option ℕ). (unless_none a probability level c).reply) e ∙ ap (λ (used : Bool). (recommend_if used low probability level c).reply) off
 
 -- THE CLAIM
 pub lowest_is_applied : LowestIsApplied

@@ -2,28 +2,23 @@
 use mathlib.Core.Path.{◌≡◌, refl, sym, ap, ◌∙◌}
 use mathlib.Core.Bool.{Bool, true, false, not, ◌||◌, ◌&&◌}
 use mathlib.Core.List.{List, [], ◌∷◌, ◌++◌}
-use mathlib.Core.Option.{Option, none, some}
 use Prim.Native.Nat.{ℕ}
 use native.Mathlib.Omega.{arith}
 use lib.IntN.{ℤ, pos}
 use lib.Signed.{le_z}
-use Rattle.numbers.specs.declared.natural.Natural.{Natural}
-use Rattle.numbers.specs.declared.natural.Natural.TheVariants.{Number, Outside}
-use Rattle.numbers.specs.declared.refusal.Outcome.{Outcome}
-use Rattle.numbers.specs.declared.refusal.Outcome.TheVariants.{Accepted, Refused}
+use Rattle.std.specs.Prelude.{Err, None, Ok, Result, Some, Option}
+use Rattle.numbers.specs.declared.refusal.Refusal.{Refusal}
 use Rattle.numbers.specs.Natural.{within_of}
-use Rattle.numbers.specs.Said.{refused, refusal_in, outcome_says}
+use Rattle.numbers.specs.Said.{refused, refusal_in, said}
 use Rattle.numbers.proofs.Truths.{and_true}
 use Rattle.clipping_predictor.specs.declared.settings.ClippingPredictorConfig.{ClippingPredictorConfig}
-use Rattle.clipping_predictor.specs.declared.settings.Checked as PredictorCheck
-use Rattle.clipping_predictor.specs.declared.settings.Checked.TheVariants as PredictorChecked
 use Rattle.clipping_predictor.specs.Settings as PredictorSettings
 use Rattle.clipping_predictor.specs.Predictor.{max_channels}
 use Rattle.mono_input_volume_controller.specs.declared.config.Config.{Config}
 use Rattle.mono_input_volume_controller.specs.declared.profile.Profile.{Profile}
 use Rattle.mono_input_volume_controller.specs.declared.profile.Profile.TheVariants.{Plain, Classroom}
+use Rattle.clipping_predictor.specs.declared.settings.Settings as Predictor
 use Rattle.mono_input_volume_controller.specs.declared.config.Settings.{Settings}
-use Rattle.mono_input_volume_controller.specs.declared.config.Checked.{Checked}
 use Rattle.mono_input_volume_controller.specs.MonoState.{max_input_volume, max_wait}
 use Rattle.mono_input_volume_controller.specs.SpeechLevel.{lowest_db, highest_db}
 use Rattle.mono_input_volume_controller.specs.Config.{defaults, in_range, in_unit, volumes_in_range, step_in_range, waits_in_range, targets_in_range, thresholds_in_range, settings_from, checked_if, settings_of}
@@ -46,24 +41,24 @@ one_to_six a b c d e f later =
     ∷ later
 
 -- with the channel count and the settings in order the predictor's check decides
-checked_first : (n : ℕ) (s : Settings) (k : PredictorCheck.Checked) → refusal_in (outcome_says (made_with n s k).answer) ≡ refusal_in (PredictorSettings.checked_says k)
+checked_first : (n : ℕ) (s : Settings) (k : Result Predictor.Settings Refusal) → refusal_in (said (made_with n s k).answer) ≡ refusal_in (said k)
 unfolding made_with
-checked_first n s (PredictorChecked.Refused cause) = refl
-checked_first n s (PredictorChecked.InOrder p) = refl
+checked_first n s (Err cause) = refl
+checked_first n s (Ok p) = refl
 
 module _ (predictor : ClippingPredictorConfig) where
-  made_first : (v : Natural) (b c d e f : Bool) (s : Settings)
-      → refusal_in (outcome_says (made_of v (checked_if b c d e f s) predictor).answer) ≡ first_of (one_to_six (is_outside v) (not b) (not c) (not d) (not e) (not f) (predictor_faults predictor))
+  made_first : (v : Option ℕ) (b c d e f : Bool) (s : Settings)
+      → refusal_in (said (made_of v (checked_if b c d e f s) predictor).answer) ≡ first_of (one_to_six (is_outside v) (not b) (not c) (not d) (not e) (not f) (predictor_faults predictor))
   unfolding made_of
-  made_first Outside b c d e f s = refl
-  made_first (Number n) false c d e f s = refl
-  made_first (Number n) true false d e f s = refl
-  made_first (Number n) true true false e f s = refl
-  made_first (Number n) true true true false f s = refl
-  made_first (Number n) true true true true false s = refl
-  made_first (Number n) true true true true true s = checked_first n s (PredictorSettings.settings_of (switched s.predicts predictor)) ∙ faults_first (switched s.predicts predictor)
+  made_first None b c d e f s = refl
+  made_first (Some n) false c d e f s = refl
+  made_first (Some n) true false d e f s = refl
+  made_first (Some n) true true false e f s = refl
+  made_first (Some n) true true true false f s = refl
+  made_first (Some n) true true true true false s = refl
+  made_first (Some n) true true true true true s = checked_first n s (PredictorSettings.settings_of (switched s.predicts predictor)) ∙ faults_first (switched s.predicts predictor)
 
-plain_first : (channels : ℤ) (config : Config) (predictor : ClippingPredictorConfig) → refusal_in (outcome_says (making_with channels config predictor).answer) ≡ first_of (making_causes Plain channels config predictor)
+plain_first : (channels : ℤ) (config : Config) (predictor : ClippingPredictorConfig) → refusal_in (said (making_with channels config predictor).answer) ≡ first_of (making_causes Plain channels config predictor)
 unfolding making_with settings_of
 plain_first channels config predictor =
     made_first predictor (within_of 1 max_channels channels) (volumes_in_range config) (step_in_range config) (waits_in_range config) (targets_in_range config) (thresholds_in_range config) (settings_from config)
@@ -95,12 +90,12 @@ outside_classroom_is c =
 
 -- the first of two lists
 abbrev or_else : Option ℕ → Option ℕ → Option ℕ
-or_else none later = later
-or_else (some number) later = some number
+or_else None later = later
+or_else (Some number) later = Some number
 
-else_none : (first : Option ℕ) → or_else first none ≡ first
-else_none none = refl
-else_none (some number) = refl
+else_none : (first : Option ℕ) → or_else first None ≡ first
+else_none None = refl
+else_none (Some number) = refl
 
 first_if_lem : (t : Bool) (number : ℕ) (later last : Option ℕ) → first_if t number (or_else later last) ≡ or_else (first_if t number later) last
 first_if_lem true number later last = refl
@@ -111,52 +106,52 @@ first_append [] later = refl
 first_append (cause ∷ causes) later = ap (first_if cause.holds cause.number) (first_append causes later) ∙ first_if_lem cause.holds cause.number (first_of causes) (first_of later)
 
 -- a refusal of the plain controller stays, and else settings that the profile does not take are refused with 19
-outside_first : (o : Outcome) (plain : Making) → plain.answer ≡ o → refusal_in (outcome_says (refused_outside o plain).answer) ≡ or_else (refusal_in (outcome_says o)) (some 19)
-outside_first Accepted plain e = refl
-outside_first (Refused cause) plain e = ap (λ (o : Outcome). refusal_in (outcome_says o)) e
+outside_first : (o : Result (Unit {0}) Refusal) (plain : Making) → plain.answer ≡ o → refusal_in (said (refused_outside o plain).answer) ≡ or_else (refusal_in (said o)) (Some 19)
+outside_first (Ok tt) plain e = refl
+outside_first (Err cause) plain e = ap (λ (o : Result (Unit {0}) Refusal). refusal_in (said o)) e
 
-within_first : (taken : Bool) (plain : Making) → refusal_in (outcome_says (within_profile taken plain).answer) ≡ or_else (refusal_in (outcome_says plain.answer)) (first_if (not taken) 19 none)
-within_first true plain = sym (else_none (refusal_in (outcome_says plain.answer)))
+within_first : (taken : Bool) (plain : Making) → refusal_in (said (within_profile taken plain).answer) ≡ or_else (refusal_in (said plain.answer)) (first_if (not taken) 19 None)
+within_first true plain = sym (else_none (refusal_in (said plain.answer)))
 within_first false plain = outside_first plain.answer plain refl
 
 pub making_first : (profile : Profile) (channels : ℤ) (config : Config) (predictor : ClippingPredictorConfig)
-    → refusal_in (outcome_says (making_in profile channels config predictor).answer) ≡ first_of (making_causes profile channels config predictor)
+    → refusal_in (said (making_in profile channels config predictor).answer) ≡ first_of (making_causes profile channels config predictor)
 making_first Plain channels config predictor = plain_first channels config predictor
 making_first Classroom channels config predictor =
     within_first (takes Classroom config) (making_with channels config predictor)
-    ∙ (λ i. or_else (plain_first channels config predictor i) (first_if (sym (outside_classroom_is config) i) 19 none))
+    ∙ (λ i. or_else (plain_first channels config predictor i) (first_if (sym (outside_classroom_is config) i) 19 None))
     ∙ sym (first_append (making_causes Plain channels config predictor) (profile_faults Classroom config))
 
 -- the base's predictor has no fault
 pub making_first_by_default : (profile : Profile) (channels : ℤ) (config : Config)
-    → refusal_in (outcome_says (making_in profile channels config base_predictor).answer) ≡ first_of (settings_causes channels config (profile_faults profile config))
+    → refusal_in (said (making_in profile channels config base_predictor).answer) ≡ first_of (settings_causes channels config (profile_faults profile config))
 making_first_by_default profile channels config = making_first profile channels config base_predictor
 
-with_beside : (n : ℕ) (s : Settings) (k : PredictorCheck.Checked) (number : ℕ) → outcome_says (made_with n s k).answer ≡ refused number → (made_with n s k).controller ≡ fresh (settings_from defaults) 1
+with_beside : (n : ℕ) (s : Settings) (k : Result Predictor.Settings Refusal) (number : ℕ) → said (made_with n s k).answer ≡ refused number → (made_with n s k).controller ≡ fresh (settings_from defaults) 1
 unfolding made_with
-with_beside n s (PredictorChecked.Refused cause) number e = refl
-with_beside n s (PredictorChecked.InOrder p) number e = let z : ◌≡◌ {A = ℕ} 0 1 = cc in absurd (omega arith)
+with_beside n s (Err cause) number e = refl
+with_beside n s (Ok p) number e = let z : ◌≡◌ {A = ℕ} 0 1 = cc in absurd (omega arith)
 
-made_beside : (predictor : ClippingPredictorConfig) (v : Natural) (s : Checked) (number : ℕ) → outcome_says (made_of v s predictor).answer ≡ refused number → (made_of v s predictor).controller ≡ fresh (settings_from defaults) 1
+made_beside : (predictor : ClippingPredictorConfig) (v : Option ℕ) (s : Result Settings Refusal) (number : ℕ) → said (made_of v s predictor).answer ≡ refused number → (made_of v s predictor).controller ≡ fresh (settings_from defaults) 1
 unfolding made_of
-made_beside predictor Outside s number e = refl
-made_beside predictor (Number n) (Checked.Refused cause) number e = refl
-made_beside predictor (Number n) (Checked.InOrder s) number e = with_beside n s (PredictorSettings.settings_of (switched s.predicts predictor)) number e
+made_beside predictor None s number e = refl
+made_beside predictor (Some n) (Err cause) number e = refl
+made_beside predictor (Some n) (Ok s) number e = with_beside n s (PredictorSettings.settings_of (switched s.predicts predictor)) number e
 
-plain_beside : (channels : ℤ) (config : Config) (predictor : ClippingPredictorConfig) (number : ℕ) → outcome_says (making_with channels config predictor).answer ≡ refused number
+plain_beside : (channels : ℤ) (config : Config) (predictor : ClippingPredictorConfig) (number : ℕ) → said (making_with channels config predictor).answer ≡ refused number
     → (making_with channels config predictor).controller ≡ fresh (settings_from defaults) 1
 unfolding making_with
 plain_beside channels config predictor number e = made_beside predictor (within_of 1 max_channels channels) (settings_of config) number e
 
-module _ (plain : Making) (beside : (number : ℕ) → outcome_says plain.answer ≡ refused number → plain.controller ≡ fresh (settings_from defaults) 1) (number : ℕ) where
-  outside_beside : (o : Outcome) → outcome_says (refused_outside o plain).answer ≡ refused number → (refused_outside o plain).controller ≡ fresh (settings_from defaults) 1
-  outside_beside Accepted e = refl
-  outside_beside (Refused cause) e = beside number e
+module _ (plain : Making) (beside : (number : ℕ) → said plain.answer ≡ refused number → plain.controller ≡ fresh (settings_from defaults) 1) (number : ℕ) where
+  outside_beside : (o : Result (Unit {0}) Refusal) → said (refused_outside o plain).answer ≡ refused number → (refused_outside o plain).controller ≡ fresh (settings_from defaults) 1
+  outside_beside (Ok tt) e = refl
+  outside_beside (Err cause) e = beside number e
 
-  within_beside : (taken : Bool) → outcome_says (within_profile taken plain).answer ≡ refused number → (within_profile taken plain).controller ≡ fresh (settings_from defaults) 1
+  within_beside : (taken : Bool) → said (within_profile taken plain).answer ≡ refused number → (within_profile taken plain).controller ≡ fresh (settings_from defaults) 1
   within_beside true e = beside number e
   within_beside false e = outside_beside plain.answer e
 
-pub making_beside : (profile : Profile) (channels : ℤ) (config : Config) (predictor : ClippingPredictorConfig) (number : ℕ) → outcome_says (making_in profile channels config predictor).answer ≡ refused number
+pub making_beside : (profile : Profile) (channels : ℤ) (config : Config) (predictor : ClippingPredictorConfig) (number : ℕ) → said (making_in profile channels config predictor).answer ≡ refused number
     → (making_in profile channels config predictor).controller ≡ fresh (settings_from defaults) 1
 making_beside profile channels config predictor number e = within_beside (making_with channels config predictor) (plain_beside channels config predictor) number (takes profile config) e

@@ -8,8 +8,8 @@ use lib.Dec.{T, ltb}
 use lib.IntN.{pos}
 use lib.Ieee.{Float, lt, le, add, mul, div, of_int, of_bits}
 use lib.ListN.{length}
-use Rattle.numbers.specs.declared.refusal.Outcome.{Outcome}
-use Rattle.numbers.specs.declared.refusal.Outcome.TheVariants.{Accepted}
+use Rattle.std.specs.Prelude.{None, Ok, Option, Result, Some}
+use Rattle.numbers.specs.declared.refusal.Refusal.{Refusal}
 use Rattle.numbers.specs.First.{first}
 use Rattle.numbers.specs.Listed.{listed}
 use Rattle.numbers.specs.Natural.{within_of}
@@ -31,12 +31,9 @@ use Rattle.clipping_predictor.specs.Estimate.{drop_by, adaptive_drop, estimate_t
 use Rattle.clipping_predictor.specs.Predictor.{Predictor, push_each, frame_fits, entered_if}
 use Rattle.clipping_predictor.specs.AllRings.{predicted_by}
 use Rattle.clipping_predictor.proofs.Turns.{turned_spread, spread_as, near_exactly}
-use Rattle.mono_input_volume_controller.specs.declared.speech_level.SpeechLevel.{SpeechLevel}
 use Rattle.mono_input_volume_controller.specs.Mono.{is_users, with_input_volume, handled_clipping}
 use Rattle.mono_input_volume_controller.specs.SameVolumes.{same_volumes}
 use Rattle.mono_input_volume_controller.specs.Config.{defaults, settings_from}
-use Rattle.input_volume_controller.specs.declared.Applied.{Applied}
-use Rattle.input_volume_controller.specs.declared.Applied.TheVariants.{Nothing, Volume}
 use Rattle.clipping_predictor_level_buffer.specs.Clipped.{count_of, clipped_in, total}
 use Rattle.clipping_predictor.specs.MostClipped.{most_clipped}
 use Rattle.input_volume_controller.specs.ClippedRatio.{clipped_ratio_of}
@@ -117,12 +114,12 @@ module _ (most : Limits) (volumes : List ℕ) (samples : ℕ) (lent : List Float
   May = MayPredict (asked_of (with_applied_input_volumes volumes c.control)) (entered_if true samples lent c.predictor)
 
   -- by a frame's tests
-  abbrev MarkedBy : Outcome → List ℕ → Type 0
+  abbrev MarkedBy : Result (Unit {0}) Refusal → List ℕ → Type 0
   MarkedBy o v = MarkedIf (unless_refused o v samples lent c) May (λ (drops : List ℕ). unless_refused_by (predicted_as drops) o v samples lent c)
 
-  accepted_marked : (o : Outcome) (v : List ℕ) → o ≡ Accepted → v ≡ volumes → MarkedBy o v
+  accepted_marked : (o : Result (Unit {0}) Refusal) (v : List ℕ) → o ≡ Ok tt → v ≡ volumes → MarkedBy o v
   accepted_marked o v a e =
-      subst (λ (o : Outcome). MarkedBy o v) (sym a) (subst (λ (v : List ℕ). MarkedBy Accepted v) (sym e) (used_marked c.control.used samples lent (with_volumes_applied volumes c)))
+      subst (λ (o : Result (Unit {0}) Refusal). MarkedBy o v) (sym a) (subst (λ (v : List ℕ). MarkedBy (Ok tt) v) (sym e) (used_marked c.control.used samples lent (with_volumes_applied volumes c)))
 
   frame_marked : T (is_accepted most (length c.control.channels) (map pos volumes) samples lent)
       → MarkedIf (step c (frame most (map pos volumes) samples lent)) May (λ (drops : List ℕ). frame_with drops most (map pos volumes) samples lent c)
@@ -150,17 +147,17 @@ is_mark (volume v) = false
 is_mark none = false
 is_mark done = false
 
-recommended_if : (used : Bool) (applied : ℕ) (probability : Float) (level : SpeechLevel) (c : Controller) → is_mark (recommend_if used applied probability level c).reply ≡ false
+recommended_if : (used : Bool) (applied : ℕ) (probability : Float) (level : Option Float) (c : Controller) → is_mark (recommend_if used applied probability level c).reply ≡ false
 unfolding is_mark
 recommended_if true applied probability level c = refl
 recommended_if false applied probability level c = refl
 
-recommended_unmarked : (applied : Applied) (probability : Float) (level : SpeechLevel) (c : Controller) → is_mark (unless_none applied probability level c).reply ≡ false
+recommended_unmarked : (applied : Option ℕ) (probability : Float) (level : Option Float) (c : Controller) → is_mark (unless_none applied probability level c).reply ≡ false
 unfolding is_mark
-recommended_unmarked Nothing probability level c = refl
-recommended_unmarked (Volume applied) probability level c = recommended_if c.control.used applied probability level c
+recommended_unmarked None probability level c = refl
+recommended_unmarked (Some applied) probability level c = recommended_if c.control.used applied probability level c
 
-never_marked : (c : Controller) (probability : Float) (level : SpeechLevel) (near : Bool) → (step c (recommendation probability level)).reply ≡ mark near → ⊥
+never_marked : (c : Controller) (probability : Float) (level : Option Float) (near : Bool) → (step c (recommendation probability level)).reply ≡ mark near → ⊥
 unfolding is_mark recommend_input_volume
 never_marked c probability level near e = clash (sym (ap is_mark e) ∙ recommended_unmarked c.control.applied probability level c)
 

@@ -8,14 +8,14 @@ use lib.Dec.{leb}
 use lib.IntN.{ℤ, pos, negsuc, nat_abs, ◌-ℤ◌}
 use lib.Signed.{le_z}
 use borrow.Author.Tests.{leb-true, le-leb}
+use Rattle.std.specs.Prelude.{Err, None, Ok, Option, Result, Some}
+use Rattle.numbers.specs.declared.refusal.Refusal.{Refusal}
 use Rattle.numbers.proofs.Signs.{clash}
 use Rattle.levels.specs.declared.decibels.Decibels.{Decibels}
 use Rattle.levels.specs.declared.decibels.Decibels.TheVariants.{Finite, PlusInfinity, MinusInfinity, NotANumber}
 use Rattle.levels.specs.Decibels.{minus, less, at_most, near, within, near_distance}
 use Rattle.levels.specs.Level.{dbfs}
 use Rattle.clipping_predictor_level_buffer.specs.declared.level.Level.{Level}
-use Rattle.clipping_predictor_level_buffer.specs.declared.Metrics.{Metrics}
-use Rattle.clipping_predictor_level_buffer.specs.declared.Metrics.TheVariants.{Found, Missing, Refused}
 use Rattle.clipping_predictor_level_buffer.specs.Metrics.{partial_metrics}
 use Rattle.clipping_predictor.specs.declared.settings.ClippingPredictorMode.{ClippingPredictorMode}
 use Rattle.clipping_predictor.specs.declared.settings.ClippingPredictorMode.TheVariants.{ClippingEventPrediction, AdaptiveStepClippingPeakPrediction, FixedStepClippingPeakPrediction}
@@ -169,13 +169,13 @@ module _ (window reference : Level) where
 
 -- ---- from a ring's records
 
-windows_same : (s : Settings) (a : Asked) (m r : Metrics) → Same (Turned (windows_tree s a m r)) (MayDropOver s a m r)
+windows_same : (s : Settings) (a : Asked) (m r : Result (Option Level) Refusal) → Same (Turned (windows_tree s a m r)) (MayDropOver s a m r)
 unfolding windows_tree MayDropOver
-windows_same s a (Found window) (Found reference) = mode_same window reference s.mode s a
-windows_same s a (Found window) Missing = leaf_same 0
-windows_same s a (Found window) (Refused cause) = leaf_same 0
-windows_same s a Missing r = leaf_same 0
-windows_same s a (Refused cause) r = leaf_same 0
+windows_same s a (Ok (Some window)) (Ok (Some reference)) = mode_same window reference s.mode s a
+windows_same s a (Ok (Some window)) (Ok None) = leaf_same 0
+windows_same s a (Ok (Some window)) (Err cause) = leaf_same 0
+windows_same s a (Ok None) r = leaf_same 0
+windows_same s a (Err cause) r = leaf_same 0
 
 low_same : (low : Bool) (t : Tree ℕ) (Above : ℕ → Type 0) → Same (Turned t) Above → Same (Turned (unless_low low t)) (MayDropUnless low Above)
 low_same true t Above same = leaf_same 0

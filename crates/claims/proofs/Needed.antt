@@ -7,6 +7,7 @@ use lib.Dec.{lit≤}
 use lib.IntN.{pos}
 use lib.Ieee.{add, mul, div, lt, le, eq, of_int, of_bits}
 use lib.ListN.{length, replicate}
+use Rattle.std.specs.Prelude.{None, Ok}
 use Rattle.numbers.specs.Listed.{listed}
 use Rattle.numbers.specs.Natural.{within_of}
 use Rattle.levels.specs.Decibels.{minus, less, at_most, within}
@@ -23,8 +24,6 @@ use Rattle.clipping_predictor.specs.Turned.{estimated}
 use Rattle.clipping_predictor.specs.Estimate.{drop_by, adaptive_drop, estimate_tree}
 use Rattle.clipping_predictor.specs.Predictor.{push_each, frame_fits}
 use Rattle.mono_input_volume_controller.specs.declared.config.Settings.{Settings}
-use Rattle.mono_input_volume_controller.specs.declared.config.Checked.TheVariants.{InOrder}
-use Rattle.mono_input_volume_controller.specs.declared.speech_level.SpeechLevel.TheVariants.{Absent}
 use Rattle.clipping_predictor_level_buffer.specs.Clipped.{count_of, clipped_in, total}
 use Rattle.clipping_predictor.specs.MostClipped.{most_clipped}
 use Rattle.input_volume_controller.specs.ClippedRatio.{clipped_ratio_of}
@@ -49,14 +48,14 @@ use Rattle.claims.proofs.OneSample.{still, clipped}
 abbrev settings : Settings
 settings = settings_from (waiting 0)
 
-in_order : settings_of (waiting 0) ≡ InOrder settings
+in_order : settings_of (waiting 0) ≡ Ok settings
 unfolding defaults settings_of of_int of_bits le
 in_order = refl
 
 wordless : Settings
 wordless = settings_from below_zero
 
-wordless_in_order : settings_of below_zero ≡ InOrder wordless
+wordless_in_order : settings_of below_zero ≡ Ok wordless
 unfolding wordless defaults settings_of of_int of_bits le
 wordless_in_order = refl
 
@@ -77,7 +76,7 @@ lead_of s fourteen = record {
   samples = 1;
   lent = plus_zero ∷ [];
   probability = plus_zero;
-  level = Absent;
+  level = None;
   calm = tt;
   long = fourteen;
   accepted = tt;
@@ -110,7 +109,7 @@ pair = record {
   samples = 1;
   lent = plus_zero ∷ plus_zero ∷ [];
   probability = plus_zero;
-  level = Absent;
+  level = None;
   calm = tt;
   long = lit≤ tt;
   accepted = tt;
@@ -147,14 +146,14 @@ past_clipped = clipped 200 ∷ []
 
 -- a recommendation of the past has ended the startup, so that a volume of 0 is left alone
 past_started : List Call
-past_started = still 200 ∷ recommendation plus_zero Absent ∷ []
+past_started = still 200 ∷ recommendation plus_zero None ∷ []
 
 -- one frame more, and every other frame is within the wait
 past_still : List Call
 past_still = still 50 ∷ []
 
 past_two : List Call
-past_two = still_two 200 ∷ recommendation plus_zero Absent ∷ []
+past_two = still_two 200 ∷ recommendation plus_zero None ∷ []
 
 record Shown : Type 0 where
   lowered : volume_in (after_calls (past_clipped ++ without_initialise lead) (clipped 255 ∷ [])) ≡ 225

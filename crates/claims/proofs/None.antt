@@ -7,15 +7,12 @@ use Prim.Native.Nat.{ℕ}
 use native.Mathlib.Omega.{arith}
 use lib.Ieee.{Float}
 use lib.ListN.{length, length-replicate}
-use Rattle.numbers.specs.declared.refusal.Outcome.{Outcome}
-use Rattle.numbers.specs.declared.refusal.Outcome.TheVariants.{Accepted, Refused}
+use Rattle.std.specs.Prelude.{Err, None, Ok, Option, Result, Some}
+use Rattle.numbers.specs.declared.refusal.Refusal.{Refusal}
 use Rattle.numbers.proofs.Truths.{and_false}
 use Rattle.numbers.proofs.Signs.{clash}
 use Rattle.clipping_predictor.specs.declared.settings.Settings as Predictor
 use Rattle.mono_input_volume_controller.specs.declared.config.Settings.{Settings}
-use Rattle.mono_input_volume_controller.specs.declared.speech_level.SpeechLevel.{SpeechLevel}
-use Rattle.input_volume_controller.specs.declared.Applied.{Applied}
-use Rattle.input_volume_controller.specs.declared.Applied.TheVariants.{Nothing, Volume}
 use Rattle.mono_input_volume_controller.specs.Mono.{created}
 use Rattle.input_volume_controller.specs.Control.{Control}
 use Rattle.input_volume_controller.specs.Plain.{is_pending}
@@ -46,25 +43,25 @@ applied_waits : (v : List ℕ) (c : Control) → Pending true (with_applied_inpu
 unfolding with_applied_input_volumes aggregated
 applied_waits v c = refl
 
-frame_waits : (o : Outcome) (volumes : List ℕ) (waiting : Bool) (samples : ℕ) (lent : List Float) (c : Controller) → Pending waiting c.control
+frame_waits : (o : Result (Unit {0}) Refusal) (volumes : List ℕ) (waiting : Bool) (samples : ℕ) (lent : List Float) (c : Controller) → Pending waiting c.control
     → Pending (is_taken o || waiting) (unless_refused o volumes samples lent c).state.control
-frame_waits (Refused cause) volumes waiting samples lent c h = h
-frame_waits Accepted volumes waiting samples lent c h = if_used_lem (Pending true) waits_on c.control.used samples lent (with_volumes_applied volumes c) (applied_waits volumes c.control)
+frame_waits (Err cause) volumes waiting samples lent c h = h
+frame_waits (Ok tt) volumes waiting samples lent c h = if_used_lem (Pending true) waits_on c.control.used samples lent (with_volumes_applied volumes c) (applied_waits volumes c.control)
 
 -- ---- a recommendation
 
-recommends : (used waiting : Bool) (applied : ℕ) (probability : Float) (level : SpeechLevel) (c : Controller) → Pending waiting c.control
+recommends : (used waiting : Bool) (applied : ℕ) (probability : Float) (level : Option Float) (c : Controller) → Pending waiting c.control
     → Pending (not used && waiting) (recommend_if used applied probability level c).state.control
 unfolding aggregated
 recommends true waiting applied probability level c h = refl
 recommends false waiting applied probability level c h = h
 
-recommendation_waits : (a : Applied) (waiting : Bool) (probability : Float) (level : SpeechLevel) (c : Controller) → c.control.applied ≡ a → Pending waiting c.control
+recommendation_waits : (a : Option ℕ) (waiting : Bool) (probability : Float) (level : Option Float) (c : Controller) → c.control.applied ≡ a → Pending waiting c.control
     → Pending (not c.control.used && waiting) (unless_none a probability level c).state.control
-recommendation_waits Nothing waiting probability level c e h =
+recommendation_waits None waiting probability level c e h =
     let idle : waiting ≡ false = sym h ∙ ap is_pending e in
     ap is_pending e ∙ sym (ap (λ (w : Bool). not c.control.used && w) idle ∙ and_false (not c.control.used))
-recommendation_waits (Volume v) waiting probability level c e h = recommends c.control.used waiting v probability level c h
+recommendation_waits (Some v) waiting probability level c e h = recommends c.control.used waiting v probability level c h
 
 -- ---- every call
 
@@ -89,13 +86,13 @@ told_next count call past c h = record { capture = open_next count true call pas
 
 -- ---- the reply
 
-a_volume : (used : Bool) (applied : ℕ) (probability : Float) (level : SpeechLevel) (c : Controller) → (recommend_if used applied probability level c).reply ≡ none → ⊥
+a_volume : (used : Bool) (applied : ℕ) (probability : Float) (level : Option Float) (c : Controller) → (recommend_if used applied probability level c).reply ≡ none → ⊥
 a_volume true applied probability level c e = let z : ◌≡◌ {A = ℕ} 0 1 = cc in omega arith
 a_volume false applied probability level c e = let z : ◌≡◌ {A = ℕ} 0 1 = cc in omega arith
 
-none_if : (a : Applied) (probability : Float) (level : SpeechLevel) (c : Controller) → ((unless_none a probability level c).reply ≡ none) ↔ (is_pending a ≡ false)
-none_if Nothing probability level c = (λ e. refl, λ e. refl)
-none_if (Volume v) probability level c = (λ e. absurd (a_volume c.control.used v probability level c e), λ e. clash e)
+none_if : (a : Option ℕ) (probability : Float) (level : Option Float) (c : Controller) → ((unless_none a probability level c).reply ≡ none) ↔ (is_pending a ≡ false)
+none_if None probability level c = (λ e. refl, λ e. refl)
+none_if (Some v) probability level c = (λ e. absurd (a_volume c.control.used v probability level c e), λ e. clash e)
 
 told_after : (predictor : Predictor.Settings) (s : Settings) (count : ℕ) (calls : List Call) → Told count (reverse calls) (after (fresh_with predictor s count) calls)
 unfolding capture_on frame_since

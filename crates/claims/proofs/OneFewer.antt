@@ -6,12 +6,12 @@ use native.Mathlib.Omega.{arith}
 use lib.IntN.{pos}
 use lib.Ieee.{fin}
 use lib.ListN.{length, get_or, length-take}
+use Rattle.std.specs.Prelude.{None}
 use Rattle.numbers.specs.Listed.{listed}
 use Rattle.numbers.specs.Natural.{within_of}
 use Rattle.clipping_predictor_level_buffer.specs.declared.level.Level.{Level}
 use Rattle.clipping_predictor.specs.declared.settings.ClippingPredictorMode.TheVariants.{AdaptiveStepClippingPeakPrediction}
 use Rattle.clipping_predictor.specs.Predictor.{push_each, frame_fits}
-use Rattle.input_volume_controller.specs.declared.Applied.TheVariants.{Nothing}
 use Rattle.mono_input_volume_controller.specs.Config.{defaults, settings_from}
 use Rattle.mono_input_volume_controller.specs.Mono.{created}
 use Rattle.input_volume_controller.specs.Volumes.{numbers_of}
@@ -31,7 +31,7 @@ waiting before = record {
     channels = created (settings_from defaults) ∷ [];
     since = 0;
     used = true;
-    applied = Nothing;
+    applied = None;
     volume = 0;
     controlling = 0;
   };

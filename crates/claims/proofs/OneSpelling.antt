@@ -1,8 +1,8 @@
 -- One spelling of a frame line, and what the lenient reader forgives: the laws of `frame_lines`. Assumes nothing.
 use mathlib.Core.Path.{◌≡◌, sym, ap, ◌∙◌}
 use mathlib.Core.List.{List}
-use mathlib.Core.Option.{some}
 use Prim.Native.Nat.{ℕ}
+use Rattle.std.specs.Prelude.{Some}
 use Rattle.frame_lines.specs.Line.{Fields}
 use Rattle.frame_lines.specs.Forgiven.{lenient_meaning}
 use Rattle.frame_lines.specs.Spelling.{spelling}
@@ -15,9 +15,9 @@ pub blanks_and_capitals_forgiven : BlanksAndCapitalsForgiven
 blanks_and_capitals_forgiven = record { capitals = capitals; several = one_more; before = one_before; behind = one_behind; too_long = long_lenient }
 
 -- what is taken of a spelling is what it was written of
-written_twice : (x : List ℕ) (f g : Fields) → lenient_meaning x ≡ some f → lenient_meaning (spelling f) ≡ some g → spelling g ≡ spelling f
+written_twice : (x : List ℕ) (f g : Fields) → lenient_meaning x ≡ Some f → lenient_meaning (spelling f) ≡ Some g → spelling g ≡ spelling f
 written_twice x f g p q =
-    let both : some f ≡ some g = sym (taken_again x f p) ∙ q in
+    let both : Some f ≡ Some g = sym (taken_again x f p) ∙ q in
     let same : g ≡ f = cc in
     ap spelling same
 

@@ -9,12 +9,10 @@ use lib.IntN.{ℤ}
 use lib.Ieee.{Float}
 use lib.ListN.{length, replicate, length-replicate}
 use borrow.Author.Tests.{eq-eqb}
-use Rattle.numbers.specs.declared.natural.Natural.{Natural}
-use Rattle.numbers.specs.declared.natural.Natural.TheVariants.{Number, Outside}
+use Rattle.std.specs.Prelude.{None, Option, Some}
 use Rattle.numbers.specs.Natural.{within_of}
 use Rattle.clipping_predictor.specs.Predictor.{max_channels, frame_fits}
 use Rattle.mono_input_volume_controller.specs.MonoState.{max_input_volume}
-use Rattle.input_volume_controller.specs.declared.Applied.TheVariants.{Volume}
 use Rattle.input_volume_controller.specs.Volumes.{equal_volumes, Volumes, number_set, are_numbers, numbers_of, numbers_in, lowest_from, lowest_of}
 use Rattle.input_volume_controller.specs.Limits.{plain_limits, is_within}
 use Rattle.input_volume_controller.specs.Control.{Control, with_applied, with_channels}
@@ -45,7 +43,7 @@ lowest_of_equal v (suc n) h = lowest_from_equal v n
 
 applied_equal : (v : ℕ) (c : Control) → 1 ≤ length c.channels → with_applied_input_volumes (replicate (length c.channels) v) c ≡ with_applied_input_volume v c
 unfolding with_applied_input_volumes with_applied_input_volume
-applied_equal v c h = λ i. aggregated (with_applied (Volume (lowest_of_equal v (length c.channels) h i)) (with_channels (given_all v c.channels i) c))
+applied_equal v c h = λ i. aggregated (with_applied (Some (lowest_of_equal v (length c.channels) h i)) (with_channels (given_all v c.channels i) c))
 
 -- ---- the frame
 
@@ -57,16 +55,16 @@ module _ (samples : ℕ) (lent : List Float) (c : Controller) (low : 1 ≤ lengt
   abbrev heard : Volumes → Bool → Stepped
   heard volumes fits = unless_refused (tested_as true (are_numbers volumes) fits (is_within plain_limits n samples)) (numbers_in volumes) samples lent c
 
-  fits_if : (v : ℕ) (fits : Bool) → frame_fits n samples lent ≡ fits → heard (number_set (replicate n v)) fits ≡ unless_one_refused (Number v) fits samples lent c
+  fits_if : (v : ℕ) (fits : Bool) → frame_fits n samples lent ≡ fits → heard (number_set (replicate n v)) fits ≡ unless_one_refused (Some v) fits samples lent c
   fits_if v false e = refl
   fits_if v true e =
       ap (λ (within : Bool). unless_refused (tested_as true true true within) (replicate n v) samples lent c) (plain_within n samples lent high e)
       ∙ ap (λ (d : Control). if_used c.control.used samples lent (record { control = d; predictor = c.predictor })) (applied_equal v c.control low)
 
-  framed : (volume : ℤ) (v : Natural) → within_of 0 max_input_volume volume ≡ v → (fits : Bool) → frame_fits n samples lent ≡ fits
+  framed : (volume : ℤ) (v : Option ℕ) → within_of 0 max_input_volume volume ≡ v → (fits : Bool) → frame_fits n samples lent ≡ fits
       → heard (numbers_of (equal_volumes volume n)) fits ≡ unless_one_refused v fits samples lent c
-  framed volume Outside e fits f = ap (λ (s : Volumes). heard s fits) (sym (equal_outside volume n (omega (arith, low, length-replicate n volume)) e))
-  framed volume (Number v) e fits f = ap (λ (s : Volumes). heard s fits) (equal_numbers volume v n e) ∙ fits_if v fits f
+  framed volume None e fits f = ap (λ (s : Volumes). heard s fits) (sym (equal_outside volume n (omega (arith, low, length-replicate n volume)) e))
+  framed volume (Some v) e fits f = ap (λ (s : Volumes). heard s fits) (equal_numbers volume v n e) ∙ fits_if v fits f
 
 -- THE CLAIM
 pub one_volume : OneVolume

@@ -8,8 +8,8 @@ use lib.IntN.{ℤ, nat_abs}
 use lib.Ieee.{Float}
 use lib.ListN.{length}
 use borrow.Author.Tests.{le-leb}
-use Rattle.numbers.specs.declared.refusal.Outcome.{Outcome}
-use Rattle.numbers.specs.declared.refusal.Outcome.TheVariants.{Accepted, Refused}
+use Rattle.std.specs.Prelude.{Err, Ok, Result}
+use Rattle.numbers.specs.declared.refusal.Refusal.{Refusal}
 use Rattle.clipping_predictor_level_buffer.specs.Level.{max_samples_per_channel}
 use Rattle.clipping_predictor.specs.Predictor.{max_channels, frame_fits}
 use Rattle.clipping_predictor.proofs.Frames.{fits}
@@ -23,9 +23,9 @@ use Rattle.claims.proofs.Lists.{and_l, and_r, is_true}
 
 -- ---- the four tests
 
-abbrev pub is_taken : Outcome → Bool
-is_taken Accepted = true
-is_taken (Refused cause) = false
+abbrev pub is_taken : Result (Unit {0}) Refusal → Bool
+is_taken (Ok tt) = true
+is_taken (Err cause) = false
 
 taken_is : (counted inside fits within : Bool) → is_taken (tested_as counted inside fits within) ≡ (counted && (inside && (fits && within)))
 taken_is false inside fits within = refl
@@ -34,9 +34,9 @@ taken_is true true false within = refl
 taken_is true true true false = refl
 taken_is true true true true = refl
 
-taken : (o : Outcome) → T (is_taken o) → o ≡ Accepted
-taken Accepted t = refl
-taken (Refused cause) t = absurd t
+taken : (o : Result (Unit {0}) Refusal) → T (is_taken o) → o ≡ Ok tt
+taken (Ok tt) t = refl
+taken (Err cause) t = absurd t
 
 -- what an accepted frame's tests say
 pub record AcceptedAs (most : Limits) (n : ℕ) (volumes : List ℤ) (samples : ℕ) (lent : List Float) : Type 0 where
@@ -55,10 +55,10 @@ module _ (most : Limits) (volumes : List ℤ) (samples : ℕ) (lent : List Float
       ap (λ (x : ℕ). is_taken (frame_outcome most x volumes samples lent)) e
       ∙ taken_is (eqb (length volumes) k) (are_numbers (numbers_of volumes)) (frame_fits k samples lent) (is_within most k samples)
 
-  pub outcome_is : {n k : ℕ} → n ≡ k → T (is_accepted most k volumes samples lent) → frame_outcome most n volumes samples lent ≡ Accepted
+  pub outcome_is : {n k : ℕ} → n ≡ k → T (is_accepted most k volumes samples lent) → frame_outcome most n volumes samples lent ≡ Ok tt
   outcome_is {n} {k} e t = taken (frame_outcome most n volumes samples lent) (subst T (sym (accepted_is e)) t)
 
-  pub told_accepted : (n : ℕ) → frame_outcome most n volumes samples lent ≡ Accepted → T (is_accepted most n volumes samples lent)
+  pub told_accepted : (n : ℕ) → frame_outcome most n volumes samples lent ≡ Ok tt → T (is_accepted most n volumes samples lent)
   told_accepted n e = subst T (sym (ap is_taken e) ∙ accepted_is {n = n} refl) tt
 
   pub accepted_as : (n : ℕ) → T (is_accepted most n volumes samples lent) → AcceptedAs most n volumes samples lent

@@ -8,7 +8,7 @@ use lib.Dec.{T, ltb}
 use lib.Ieee.{Float, le}
 use lib.ListN.{length, take}
 use borrow.Author.Tests.{ltb-true, ltb-false}
-use Rattle.numbers.specs.declared.refusal.Outcome.TheVariants.{Accepted}
+use Rattle.std.specs.Prelude.{Ok}
 use Rattle.numbers.proofs.Listed.{length_listed}
 use Rattle.clipping_predictor_level_buffer.specs.declared.level.Level.{Level}
 use Rattle.clipping_predictor_level_buffer.specs.Level.{frame_record}
@@ -47,7 +47,7 @@ waited false wait c f g z = ap (λ (x : ℕ). handle_if (ltb 0 x) (max c.control
 module _ (p : Predictor.Settings) (s : Settings) (n : ℕ) (window : 1 ≤ p.window) (ratio : T (le plus_zero s.clipped_ratio)) (volumes : List ℕ) (samples : ℕ) (lent : List Float) where
   -- what such a frame does: its levels enter, and then it counts, or is tested
   frame_on : (c : Controller) → Kept p s n c → c.control.used ≡ true → T (all is_sound lent)
-      → unless_refused Accepted volumes samples lent c ≡ unless_waiting (ltb c.control.since c.control.settings.clipped_wait) false (entered volumes samples lent c)
+      → unless_refused (Ok tt) volumes samples lent c ≡ unless_waiting (ltb c.control.since c.control.settings.clipped_wait) false (entered volumes samples lent c)
   unfolding with_applied_input_volumes aggregated
   frame_on c k u t =
       ap (λ (b : Bool). if_used b samples lent (record { control = with_applied_input_volumes volumes c.control; predictor = c.predictor })) u
@@ -73,7 +73,7 @@ module _ (p : Predictor.Settings) (s : Settings) (n : ℕ) (window : 1 ≤ p.win
         (match_push (is_low p) (capacity_of p) h.m k (levels_of n samples lent) c.predictor.rings grown
         (length_listed (λ i. frame_record (part_of samples lent i)) n ∙ sym b.count) low h.rows)
 
-    pub led_frame : Led p s (grow (levels_of n samples lent) grown) (suc k) (unless_refused Accepted volumes samples lent c).state
+    pub led_frame : Led p s (grow (levels_of n samples lent) grown) (suc k) (unless_refused (Ok tt) volumes samples lent c).state
     unfolding with_applied_input_volumes aggregated
     led_frame =
         subst (λ (r : Stepped). Led p s (grow (levels_of n samples lent) grown) (suc k) r.state) (sym (frame_on c b h.on sound))
@@ -88,7 +88,7 @@ module _ (p : Predictor.Settings) (s : Settings) (n : ℕ) (window : 1 ≤ p.win
 
     -- where the count is at most one short of the wait, and the window is all quiet
     pub quiet_frame : p.window ≤ suc k → s.clipped_wait ≤ suc c.control.since
-        → (unless_refused Accepted volumes samples lent c).state ≡ counting s.clipped_wait (entered volumes samples lent c)
+        → (unless_refused (Ok tt) volumes samples lent c).state ≡ counting s.clipped_wait (entered volumes samples lent c)
     unfolding with_applied_input_volumes aggregated
     quiet_frame w e =
         let since = c.control.since in

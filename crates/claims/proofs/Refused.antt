@@ -2,19 +2,15 @@
 use mathlib.Core.Path.{◌≡◌, refl, sym, ap, ◌∙◌}
 use mathlib.Core.Bool.{Bool, true, false, not}
 use mathlib.Core.List.{List}
-use mathlib.Core.Option.{Option, none, some}
 use Prim.Native.Nat.{ℕ}
 use native.Mathlib.Omega.{arith}
 use lib.Dec.{ltb, eqb}
 use lib.Ieee.{Float, lt}
 use lib.ListN.{length}
+use Rattle.std.specs.Prelude.{Err, None, Ok, Result, Some, Option}
+use Rattle.numbers.specs.declared.refusal.Refusal.{Refusal}
 use Rattle.numbers.specs.Refusal.{number_of}
-use Rattle.numbers.specs.declared.refusal.Outcome.{Outcome}
-use Rattle.numbers.specs.declared.refusal.Outcome.TheVariants.{Accepted, Refused}
 use Rattle.clipping_predictor.specs.Predictor.{frame_fits, entered_if}
-use Rattle.mono_input_volume_controller.specs.declared.speech_level.SpeechLevel.{SpeechLevel}
-use Rattle.input_volume_controller.specs.declared.Applied.{Applied}
-use Rattle.input_volume_controller.specs.declared.Applied.TheVariants.{Nothing, Volume}
 use Rattle.input_volume_controller.specs.ClippedRatio.{clipped_ratio_of}
 use Rattle.input_volume_controller.specs.Controller.{Controller}
 use Rattle.input_volume_controller.specs.Reply.{Reply, refusal, done}
@@ -29,25 +25,25 @@ use Rattle.claims.proofs.Causes.{frame_causes_by, frame_causes_lem}
 use Rattle.claims.proofs.Making.{making_first, making_first_by_default, making_beside}
 
 -- a reply that refuses with nothing is no refusal
-never : (r : Reply) (number : ℕ) → refused_by r ≡ none → r ≡ refusal number → ⊥
-never r number e f = let k : none ≡ some number = sym e ∙ ap refused_by f in let z : ◌≡◌ {A = ℕ} 0 1 = cc in omega arith
+never : (r : Reply) (number : ℕ) → refused_by r ≡ None → r ≡ refusal number → ⊥
+never r number e f = let k : None ≡ Some number = sym e ∙ ap refused_by f in let z : ◌≡◌ {A = ℕ} 0 1 = cc in omega arith
 
 -- ---- frames
 
-waiting_accepts : (waits clipped : Bool) (c : Controller) → refused_by (unless_waiting waits clipped c).reply ≡ none
+waiting_accepts : (waits clipped : Bool) (c : Controller) → refused_by (unless_waiting waits clipped c).reply ≡ None
 waiting_accepts true clipped c = refl
 waiting_accepts false clipped c = refl
 
-used_accepts : (used : Bool) (samples : ℕ) (lent : List Float) (c : Controller) → refused_by (if_used used samples lent c).reply ≡ none
+used_accepts : (used : Bool) (samples : ℕ) (lent : List Float) (c : Controller) → refused_by (if_used used samples lent c).reply ≡ None
 used_accepts true samples lent c =
     waiting_accepts (ltb c.control.since c.control.settings.clipped_wait) (lt c.control.settings.clipped_ratio (clipped_ratio_of (length c.control.channels) samples lent))
     (record { control = c.control; predictor = entered_if true samples lent c.predictor })
 used_accepts false samples lent c = refl
 
 -- the number of an outcome
-abbrev said_by : Outcome → Option ℕ
-said_by (Refused cause) = some (number_of cause)
-said_by Accepted = none
+abbrev said_by : Result (Unit {0}) Refusal → Option ℕ
+said_by (Err cause) = Some (number_of cause)
+said_by (Ok tt) = None
 
 -- the first test that fails says it
 first_fails : (counted inside fits within : Bool) → said_by (tested_as counted inside fits within) ≡ first_of (frame_causes_by (not counted) (not inside) (not fits) (not within))
@@ -57,24 +53,24 @@ first_fails true true false within = refl
 first_fails true true true false = refl
 first_fails true true true true = refl
 
-frame_says : (o : Outcome) (volumes : List ℕ) (samples : ℕ) (lent : List Float) (c : Controller) → refused_by (unless_refused o volumes samples lent c).reply ≡ said_by o
-frame_says (Refused cause) volumes samples lent c = refl
-frame_says Accepted volumes samples lent c = used_accepts c.control.used samples lent (with_volumes_applied volumes c)
+frame_says : (o : Result (Unit {0}) Refusal) (volumes : List ℕ) (samples : ℕ) (lent : List Float) (c : Controller) → refused_by (unless_refused o volumes samples lent c).reply ≡ said_by o
+frame_says (Err cause) volumes samples lent c = refl
+frame_says (Ok tt) volumes samples lent c = used_accepts c.control.used samples lent (with_volumes_applied volumes c)
 
-frame_same : (o : Outcome) (volumes : List ℕ) (samples : ℕ) (lent : List Float) (c : Controller) (number : ℕ) → (unless_refused o volumes samples lent c).reply ≡ refusal number
+frame_same : (o : Result (Unit {0}) Refusal) (volumes : List ℕ) (samples : ℕ) (lent : List Float) (c : Controller) (number : ℕ) → (unless_refused o volumes samples lent c).reply ≡ refusal number
     → (unless_refused o volumes samples lent c).state ≡ c
-frame_same (Refused cause) volumes samples lent c number e = refl
-frame_same Accepted volumes samples lent c number e = absurd (never _ number (used_accepts c.control.used samples lent (with_volumes_applied volumes c)) e)
+frame_same (Err cause) volumes samples lent c number e = refl
+frame_same (Ok tt) volumes samples lent c number e = absurd (never _ number (used_accepts c.control.used samples lent (with_volumes_applied volumes c)) e)
 
 -- ---- recommendations are never refused
 
-recommends : (used : Bool) (applied : ℕ) (probability : Float) (level : SpeechLevel) (c : Controller) → refused_by (recommend_if used applied probability level c).reply ≡ none
+recommends : (used : Bool) (applied : ℕ) (probability : Float) (level : Option Float) (c : Controller) → refused_by (recommend_if used applied probability level c).reply ≡ None
 recommends true applied probability level c = refl
 recommends false applied probability level c = refl
 
-answers_or_none : (a : Applied) (probability : Float) (level : SpeechLevel) (c : Controller) → refused_by (unless_none a probability level c).reply ≡ none
-answers_or_none Nothing probability level c = refl
-answers_or_none (Volume applied) probability level c = recommends c.control.used applied probability level c
+answers_or_none : (a : Option ℕ) (probability : Float) (level : Option Float) (c : Controller) → refused_by (unless_none a probability level c).reply ≡ None
+answers_or_none None probability level c = refl
+answers_or_none (Some applied) probability level c = recommends c.control.used applied probability level c
 
 -- ---- the two rules of a call
 

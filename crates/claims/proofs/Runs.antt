@@ -7,11 +7,8 @@ use lib.Dec.{T}
 use lib.IntN.{ℤ, pos, nat_abs}
 use lib.Ieee.{Float}
 use lib.ListN.{length}
-use Rattle.numbers.specs.declared.refusal.Outcome.{Outcome}
-use Rattle.numbers.specs.declared.refusal.Outcome.TheVariants.{Accepted, Refused}
-use Rattle.mono_input_volume_controller.specs.declared.speech_level.SpeechLevel.{SpeechLevel}
-use Rattle.input_volume_controller.specs.declared.Applied.{Applied}
-use Rattle.input_volume_controller.specs.declared.Applied.TheVariants.{Volume}
+use Rattle.std.specs.Prelude.{Err, Ok, Option, Result, Some}
+use Rattle.numbers.specs.declared.refusal.Refusal.{Refusal}
 use Rattle.input_volume_controller.specs.Controller.{Controller}
 use Rattle.input_volume_controller.specs.declared.limits.Limits.{Limits}
 use Rattle.input_volume_controller.specs.Volumes.{numbers_of, numbers_in}
@@ -30,9 +27,9 @@ after_append [] b c = refl
 after_append (call ∷ calls) b c = after_append calls b (step c call).state
 
 -- refused frames change nothing
-refused_same : (o : Outcome) (volumes : List ℕ) (samples : ℕ) (lent : List Float) (c : Controller) → T (not (is_taken o)) → (unless_refused o volumes samples lent c).state ≡ c
-refused_same (Refused cause) volumes samples lent c t = refl
-refused_same Accepted volumes samples lent c t = absurd t
+refused_same : (o : Result (Unit {0}) Refusal) (volumes : List ℕ) (samples : ℕ) (lent : List Float) (c : Controller) → T (not (is_taken o)) → (unless_refused o volumes samples lent c).state ≡ c
+refused_same (Err cause) volumes samples lent c t = refl
+refused_same (Ok tt) volumes samples lent c t = absurd t
 
 pub step_refused : (n : ℕ) (call : Call) (c : Controller) → length c.control.channels ≡ n → T (is_refused n call) → (step c call).state ≡ c
 unfolding is_refused analyze_input_audio
@@ -55,7 +52,7 @@ skip n calls rest c e t = after_append calls rest c ∙ ap (λ (x : Controller).
 -- ---- accepted frames and recommendations
 
 pub step_accepted : (n : ℕ) (most : Limits) (volumes : List ℤ) (samples : ℕ) (lent : List Float) (c : Controller) → length c.control.channels ≡ n → T (is_accepted most n volumes samples lent)
-    → step c (frame most volumes samples lent) ≡ unless_refused Accepted (map nat_abs volumes) samples lent c
+    → step c (frame most volumes samples lent) ≡ unless_refused (Ok tt) (map nat_abs volumes) samples lent c
 unfolding analyze_input_audio
 step_accepted n most volumes samples lent c e t =
     let a = accepted_as most volumes samples lent n t in
@@ -63,12 +60,12 @@ step_accepted n most volumes samples lent c e t =
 
 -- the same of volumes that were numbers
 pub step_numbers : (n : ℕ) (most : Limits) (numbers : List ℕ) (samples : ℕ) (lent : List Float) (c : Controller) → length c.control.channels ≡ n → T (is_accepted most n (map pos numbers) samples lent)
-    → step c (frame most (map pos numbers) samples lent) ≡ unless_refused Accepted numbers samples lent c
+    → step c (frame most (map pos numbers) samples lent) ≡ unless_refused (Ok tt) numbers samples lent c
 step_numbers n most numbers samples lent c e t =
-    step_accepted n most (map pos numbers) samples lent c e t ∙ ap (λ (ns : List ℕ). unless_refused Accepted ns samples lent c) (numbers_back numbers)
+    step_accepted n most (map pos numbers) samples lent c e t ∙ ap (λ (ns : List ℕ). unless_refused (Ok tt) ns samples lent c) (numbers_back numbers)
 
-pub step_recommended : (probability : Float) (level : SpeechLevel) (v : ℕ) (c : Controller) → c.control.applied ≡ Volume v → c.control.used ≡ true
+pub step_recommended : (probability : Float) (level : Option Float) (v : ℕ) (c : Controller) → c.control.applied ≡ Some v → c.control.used ≡ true
     → (step c (recommendation probability level)).state ≡ (recommend_if true v probability level c).state
 unfolding recommend_input_volume
 step_recommended probability level v c e u =
-    ap (λ (x : Applied). (unless_none x probability level c).state) e ∙ ap (λ (x : Bool). (recommend_if x v probability level c).state) u
+    ap (λ (x : Option ℕ). (unless_none x probability level c).state) e ∙ ap (λ (x : Bool). (recommend_if x v probability level c).state) u

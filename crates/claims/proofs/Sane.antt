@@ -8,8 +8,8 @@ use native.Mathlib.Omega.{arith}
 use lib.Dec.{ltb}
 use lib.Ieee.{Float, lt}
 use lib.ListN.{length, length-take, length-map}
-use Rattle.numbers.specs.declared.refusal.Outcome.{Outcome}
-use Rattle.numbers.specs.declared.refusal.Outcome.TheVariants.{Accepted, Refused}
+use Rattle.std.specs.Prelude.{Err, None, Ok, Option, Result, Some}
+use Rattle.numbers.specs.declared.refusal.Refusal.{Refusal}
 use Rattle.clipping_predictor_level_buffer.specs.declared.level.Level.{Level}
 use Rattle.clipping_predictor_level_buffer.specs.Level.{max_samples_per_channel, frame_record}
 use Rattle.clipping_predictor_level_buffer.specs.Ring.{Counted}
@@ -23,17 +23,12 @@ use Rattle.clipping_predictor.specs.AllRings.{predicted_by}
 use Rattle.clipping_predictor.proofs.Frames.{fits}
 use Rattle.clipping_predictor.proofs.MostClipped.{part_few}
 use Rattle.mono_input_volume_controller.specs.declared.mono.MonoInputVolumeController.{MonoInputVolumeController}
-use Rattle.mono_input_volume_controller.specs.declared.speech_level.SpeechLevel.{SpeechLevel}
 use Rattle.mono_input_volume_controller.specs.SpeechLevel.{rms_error_of}
 use Rattle.mono_input_volume_controller.specs.MonoState as Mono
 use Rattle.mono_input_volume_controller.specs.Config as Config
-use Rattle.input_volume_controller.specs.declared.channels.ChannelCall.{ChannelCall}
-use Rattle.input_volume_controller.specs.declared.channels.ChannelCall.TheVariants.{Initialize, CaptureOutputUsed, Clipping, Process}
-use Rattle.input_volume_controller.specs.declared.Applied.{Applied}
-use Rattle.input_volume_controller.specs.declared.Applied.TheVariants.{Nothing, Volume}
+use Rattle.input_volume_controller.specs.Channels.{ChannelCall, Initialize, CaptureOutputUsed, Clipping, Process, called, each_called, aggregate_of}
 use Rattle.input_volume_controller.specs.ClippedRatio.{clipped_ratio_of}
 use Rattle.input_volume_controller.specs.Volumes.{numbers_of, numbers_in, lowest_of}
-use Rattle.input_volume_controller.specs.Channels.{called, each_called, aggregate_of}
 use Rattle.input_volume_controller.specs.Control.{Control}
 use Rattle.input_volume_controller.specs.ControlCalls.{raised_for, aggregated, with_applied_input_volumes, initialize, lower_channels, process_channels}
 use Rattle.input_volume_controller.specs.Controller.{Controller}
@@ -58,7 +53,7 @@ pub record SaneControl (n : ℕ) (c : Control) : Type 0 where
 
 module _ (n : ℕ) where
   -- the channels after a call, and the volume that is taken of them, with what is then pending
-  taken_sane : (channels : List MonoInputVolumeController) (since : ℕ) (used : Bool) (a b : Applied) (c : Control) → length channels ≡ length c.channels → Every Mono.Good channels → SaneControl n c
+  taken_sane : (channels : List MonoInputVolumeController) (since : ℕ) (used : Bool) (a b : Option ℕ) (c : Control) → length channels ≡ length c.channels → Every Mono.Good channels → SaneControl n c
       → SaneControl n (record {
         settings = c.settings;
         channels = channels;
@@ -76,7 +71,7 @@ module _ (n : ℕ) where
   }
 
   -- every channel gets a call
-  called_sane : (call : ChannelCall) (since : ℕ) (used : Bool) (a b : Applied) (c : Control) → ((m : MonoInputVolumeController) → Mono.Good m → Mono.Good (called call m)) → SaneControl n c
+  called_sane : (call : ChannelCall) (since : ℕ) (used : Bool) (a b : Option ℕ) (c : Control) → ((m : MonoInputVolumeController) → Mono.Good m → Mono.Good (called call m)) → SaneControl n c
       → SaneControl n (record {
         settings = c.settings;
         channels = each_called call c.channels;
@@ -97,13 +92,13 @@ module _ (n : ℕ) where
         counts = λ c h. record { settings = h.settings; count = h.count; each = h.each; volume = h.volume };
       };
       applies = λ volumes c e m t h.
-          taken_sane _ c.since c.used (Volume (lowest_of volumes)) (Volume (lowest_of volumes)) c (length_given volumes c.channels) (all_given volumes c.channels m h.each) h;
+          taken_sane _ c.since c.used (Some (lowest_of volumes)) (Some (lowest_of volumes)) c (length_given volumes c.channels) (all_given volumes c.channels m h.each) h;
       processes = λ p l c h.
-          called_sane (Process (rms_error_of l c.settings.min_target c.settings.max_target) p) c.since c.used c.applied Nothing c
+          called_sane (Process (rms_error_of l c.settings.min_target c.settings.max_target) p) c.since c.used c.applied None c
           (good_process (rms_error_of l c.settings.min_target c.settings.max_target) p) h;
       repeats = λ c h. taken_sane c.channels c.since c.used c.applied c.applied c refl h.each h;
     };
-    initialises = λ c h. called_sane Initialize c.since true c.applied Nothing c good_initialized h;
+    initialises = λ c h. called_sane Initialize c.since true c.applied None c good_initialized h;
     switches = λ on c h. record {
       settings = h.settings;
       count = length-map c.channels _ ∙ h.count;
@@ -172,18 +167,18 @@ module _ (n : ℕ) where
       (record { control = c.control; predictor = entered_if true samples lent c.predictor }) (entered_sane samples lent c.predictor most h)
   used_sane false samples lent c most h = h
 
-  frame_sane : (o : Outcome) (volumes : List ℕ) (samples : ℕ) (lent : List Float) (c : Controller) → (o ≡ Accepted → samples ≤ max_samples_per_channel) → SanePredictor n c.predictor
+  frame_sane : (o : Result (Unit {0}) Refusal) (volumes : List ℕ) (samples : ℕ) (lent : List Float) (c : Controller) → (o ≡ Ok tt → samples ≤ max_samples_per_channel) → SanePredictor n c.predictor
       → SanePredictor n (unless_refused o volumes samples lent c).state.predictor
-  frame_sane (Refused cause) volumes samples lent c most h = h
-  frame_sane Accepted volumes samples lent c most h = used_sane c.control.used samples lent (with_volumes_applied volumes c) (most refl) h
+  frame_sane (Err cause) volumes samples lent c most h = h
+  frame_sane (Ok tt) volumes samples lent c most h = used_sane c.control.used samples lent (with_volumes_applied volumes c) (most refl) h
 
-  recommended_sane : (t : Bool) (applied : ℕ) (probability : Float) (level : SpeechLevel) (c : Controller) → SanePredictor n c.predictor → SanePredictor n (recommend_if t applied probability level c).state.predictor
+  recommended_sane : (t : Bool) (applied : ℕ) (probability : Float) (level : Option Float) (c : Controller) → SanePredictor n c.predictor → SanePredictor n (recommend_if t applied probability level c).state.predictor
   recommended_sane true applied probability level c h = h
   recommended_sane false applied probability level c h = h
 
-  asked_sane : (a : Applied) (probability : Float) (level : SpeechLevel) (c : Controller) → SanePredictor n c.predictor → SanePredictor n (unless_none a probability level c).state.predictor
-  asked_sane Nothing probability level c h = h
-  asked_sane (Volume applied) probability level c h = recommended_sane c.control.used applied probability level c h
+  asked_sane : (a : Option ℕ) (probability : Float) (level : Option Float) (c : Controller) → SanePredictor n c.predictor → SanePredictor n (unless_none a probability level c).state.predictor
+  asked_sane None probability level c h = h
+  asked_sane (Some applied) probability level c h = recommended_sane c.control.used applied probability level c h
 
   predictor_sane : (call : Call) (c : Controller) → SanePredictor n c.predictor → SanePredictor n (step c call).state.predictor
   unfolding analyze_input_audio recommend_input_volume

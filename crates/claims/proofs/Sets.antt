@@ -6,9 +6,8 @@ use lib.IntN.{ℤ, nat_abs}
 use lib.ListN.{length, replicate}
 use Rattle.mono_input_volume_controller.specs.declared.mono.MonoInputVolumeController.{MonoInputVolumeController}
 use Rattle.mono_input_volume_controller.specs.MonoState.{max_input_volume}
-use Rattle.input_volume_controller.specs.declared.channels.ChannelCall.TheVariants.{StreamAnalogLevel}
+use Rattle.input_volume_controller.specs.Channels.{StreamAnalogLevel, called, each_called, each_given}
 use Rattle.input_volume_controller.specs.Volumes.{number_set, numbers_of}
-use Rattle.input_volume_controller.specs.Channels.{called, each_called, each_given}
 use Rattle.input_volume_controller.proofs.SetNumbers.{AllMost, told_set, numbers_back}
 use Rattle.claims.specs.Every.{Every}
 use Rattle.claims.proofs.Lists.{map_replicate}

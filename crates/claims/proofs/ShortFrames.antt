@@ -9,13 +9,13 @@ use lib.IntN.{ℤ}
 use lib.Ieee.{Float}
 use lib.ListN.{length}
 use borrow.Author.Tests.{le-leb, leb-true}
+use Rattle.std.specs.Prelude.{Err}
 use Rattle.numbers.specs.declared.refusal.Refusal.TheVariants.{FrameLimits}
 use Rattle.numbers.proofs.Signs.{clash}
 use Rattle.numbers.proofs.Truths.{both_true}
 use Rattle.clipping_predictor_level_buffer.specs.Level.{max_samples_per_channel}
 use Rattle.clipping_predictor.specs.Predictor.{max_channels, frame_fits}
 use Rattle.input_volume_controller.specs.declared.limits.Limits.{Limits}
-use Rattle.input_volume_controller.specs.declared.Analysis.TheVariants.{Refused}
 use Rattle.input_volume_controller.specs.declared.Analyzed.{Analyzed}
 use Rattle.input_volume_controller.specs.declared.InputVolumeController.{InputVolumeController}
 use Rattle.input_volume_controller.specs.Volumes.{are_numbers, numbers_of, numbers_in}
@@ -100,7 +100,7 @@ plain_never c volumes samples lent h e =
 module _ (self : InputVolumeController) (volumes : List ℤ) (samples : ℕ) (lent : List Float) (wide r : Analyzed) (a : AnalyzedEachOf plain_limits self volumes samples lent wide)
     (b : AnalyzedEachOf spotter_limits self volumes samples lent r) where
   narrowed_to : (t : Bool) → step (view_of self) (frame spotter_limits volumes samples lent) ≡ narrowed_if t (view_of self) (step (view_of self) (frame plain_limits volumes samples lent)) → NarrowedTo t self wide r
-  narrowed_to true e = let refused = analysis_fixed r.answer (Refused FrameLimits) (b.does.reply ∙ ap (λ (s : Stepped). s.reply) e) in (refused, b.same FrameLimits refused)
+  narrowed_to true e = let refused = analysis_fixed r.answer (Err FrameLimits) (b.does.reply ∙ ap (λ (s : Stepped). s.reply) e) in (refused, b.same FrameLimits refused)
   narrowed_to false e = (
     analysis_fixed r.answer wide.answer (b.does.reply ∙ ap (λ (s : Stepped). s.reply) e ∙ sym a.does.reply),
     b.does.view ∙ ap (λ (s : Stepped). s.state) e ∙ sym a.does.view,

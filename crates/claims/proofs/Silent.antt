@@ -12,12 +12,12 @@ use lib.ListN.{length, take, length-take}
 use lib.Seq.{take-take}
 use lib.Ieee.{Float, nan, inf, fin, lt, up, down}
 use borrow.Author.Tests.{lt-ltb, le-ltb}
+use Rattle.std.specs.Prelude.{Err, None, Ok, Option, Result, Some}
+use Rattle.numbers.specs.declared.refusal.Refusal.{Refusal}
 use Rattle.levels.specs.declared.decibels.Decibels.TheVariants.{Finite}
 use Rattle.levels.specs.Decibels.{plus, at_most}
 use Rattle.levels.specs.Level.{thousandths, above_one, level_of, dbfs}
 use Rattle.clipping_predictor_level_buffer.specs.declared.level.Level.{Level}
-use Rattle.clipping_predictor_level_buffer.specs.declared.Metrics.{Metrics}
-use Rattle.clipping_predictor_level_buffer.specs.declared.Metrics.TheVariants.{Found, Missing, Refused}
 use Rattle.clipping_predictor_level_buffer.specs.Statistics.{plus_zero, second_if, larger, largest}
 use Rattle.clipping_predictor_level_buffer.specs.Metrics.{peak_of, metrics_over, found_if, metrics_if, partial_metrics}
 use Rattle.clipping_predictor.specs.declared.settings.ClippingPredictorMode.{ClippingPredictorMode}
@@ -103,14 +103,14 @@ module _ (p : Settings) (a : Asked) where
   mode_none FixedStepClippingPeakPrediction window reference t = held_none _ _ _ t
 
   -- by whether the window's metrics can be had, and are there
-  windows_none : (given there : Bool) (items : List Level) (reference : Metrics) → (T there → low_at (edge p) (metrics_over items).max)
+  windows_none : (given there : Bool) (items : List Level) (reference : Result (Option Level) Refusal) → (T there → low_at (edge p) (metrics_over items).max)
       → reached (windows_tree p a (metrics_if given (found_if there items)) reference) ≡ 0
   unfolding reached windows_tree
   windows_none false there items reference h = refl
   windows_none true false items reference h = refl
-  windows_none true true items (Found reference) h = mode_none p.mode (metrics_over items) reference (h tt)
-  windows_none true true items Missing h = refl
-  windows_none true true items (Refused cause) h = refl
+  windows_none true true items (Ok (Some reference)) h = mode_none p.mode (metrics_over items) reference (h tt)
+  windows_none true true items (Ok None) h = refl
+  windows_none true true items (Err cause) h = refl
 
   unless_low_lem : (t : Bool) (tree : Tree ℕ) → reached tree ≡ 0 → reached (unless_low t tree) ≡ 0
   unfolding reached

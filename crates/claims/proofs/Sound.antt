@@ -6,18 +6,14 @@ use Prim.Native.Nat.{ℕ, zero, suc, ◌≤◌, zero-le}
 use native.Mathlib.Nat.{le_trans}
 use native.Mathlib.Omega.{arith}
 use lib.Ieee.{Float}
+use Rattle.std.specs.Prelude.{ℤ, None, Option, Some}
 use Rattle.clipping_predictor.specs.declared.settings.Settings as Predictor
 use Rattle.mono_input_volume_controller.specs.declared.config.Settings.{Settings}
 use Rattle.mono_input_volume_controller.specs.declared.mono.MonoInputVolumeController.{MonoInputVolumeController}
-use Rattle.mono_input_volume_controller.specs.declared.speech_level.RmsError.{RmsError}
 use Rattle.mono_input_volume_controller.specs.SpeechLevel.{rms_error_of}
-use Rattle.input_volume_controller.specs.declared.channels.ChannelCall.{ChannelCall}
-use Rattle.input_volume_controller.specs.declared.channels.ChannelCall.TheVariants.{Initialize, CaptureOutputUsed, StreamAnalogLevel, Clipping, Process}
-use Rattle.input_volume_controller.specs.declared.Applied.{Applied}
-use Rattle.input_volume_controller.specs.declared.Applied.TheVariants.{Nothing, Volume}
+use Rattle.input_volume_controller.specs.Channels.{ChannelCall, Initialize, CaptureOutputUsed, StreamAnalogLevel, Clipping, Process, called, each_called, each_given, aggregate_of}
 use Rattle.mono_input_volume_controller.specs.MonoState.{max_input_volume, max_wait, Good}
 use Rattle.mono_input_volume_controller.specs.Mono.{created}
-use Rattle.input_volume_controller.specs.Channels.{called, each_called, each_given, aggregate_of}
 use Rattle.input_volume_controller.specs.Control.{Control}
 use Rattle.input_volume_controller.specs.Volumes.{lowest_of}
 use Rattle.input_volume_controller.specs.ControlCalls.{raised_for, aggregated, with_applied_input_volumes, initialize, lower_channels, process_channels}
@@ -48,7 +44,7 @@ pub good_lowered : (by : ℕ) (m : MonoInputVolumeController) → Good m → Goo
 unfolding called
 good_lowered by m g = good_clipped by m g
 
-pub good_process : (error : RmsError) (probability : Float) (m : MonoInputVolumeController) → Good m → Good (called (Process error probability) m)
+pub good_process : (error : Option ℤ) (probability : Float) (m : MonoInputVolumeController) → Good m → Good (called (Process error probability) m)
 unfolding called
 good_process error probability m g = good_processed error probability m g
 
@@ -71,15 +67,15 @@ unfolding aggregate_of
 lowest_most [] g = zero-le
 lowest_most (m ∷ ms) g = le_trans ((lowest_of_lem (m ∷ ms) (omega arith)).least 0 (omega arith)) g.0.volume_le
 
-pub raised_most : (a : Applied) (least x : ℕ) → least ≤ 255 → x ≤ 255 → raised_for a least x ≤ 255
+pub raised_most : (a : Option ℕ) (least x : ℕ) → least ≤ 255 → x ≤ 255 → raised_for a least x ≤ 255
 unfolding raised_for
-raised_most Nothing least x h k = k
-raised_most (Volume zero) least x h k = k
-raised_most (Volume (suc n)) least x h k = omega arith
+raised_most None least x h k = k
+raised_most (Some zero) least x h k = k
+raised_most (Some (suc n)) least x h k = omega arith
 
-abbrev pub AppliedMost : Applied → Type 0
-AppliedMost Nothing = Unit {0}
-AppliedMost (Volume v) = v ≤ 255
+abbrev pub AppliedMost : Option ℕ → Type 0
+AppliedMost None = Unit {0}
+AppliedMost (Some v) = v ≤ 255
 
 -- what every call keeps: the settings, the channels in good order, and the volumes
 pub record Sound (s : Settings) (c : Control) : Type 0 where
@@ -90,7 +86,7 @@ pub record Sound (s : Settings) (c : Control) : Type 0 where
 
 module _ (s : Settings) (low : s.least ≤ 255) where
   -- the volume that is taken from such channels
-  taken : (a : Applied) (c : Control) (channels : List MonoInputVolumeController) → c.settings ≡ s → AllGood channels → raised_for a c.settings.least (aggregate_of channels).volume ≤ 255
+  taken : (a : Option ℕ) (c : Control) (channels : List MonoInputVolumeController) → c.settings ≡ s → AllGood channels → raised_for a c.settings.least (aggregate_of channels).volume ≤ 255
   taken a c channels e g = raised_most a c.settings.least (aggregate_of channels).volume (omega (arith, ap (λ (t : Settings). t.least) e)) (lowest_most channels g)
 
   pub sound_kept : Keeps Any (Sound s)
@@ -103,7 +99,7 @@ module _ (s : Settings) (low : s.least ≤ 255) where
       };
       applies = λ volumes c e m t h.
           let g = all_given volumes c.channels m h.channels in
-          record { settings = h.settings; channels = g; volume = taken (Volume (lowest_of volumes)) c _ h.settings g; applied = lowest_of_most volumes m };
+          record { settings = h.settings; channels = g; volume = taken (Some (lowest_of volumes)) c _ h.settings g; applied = lowest_of_most volumes m };
       processes = λ p l c h.
           let error = rms_error_of l c.settings.min_target c.settings.max_target in
           let g = all_called (Process error p) (good_process error p) c.channels h.channels in

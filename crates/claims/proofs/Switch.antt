@@ -8,9 +8,7 @@ use Rattle.mono_input_volume_controller.specs.declared.config.Settings.{Settings
 use Rattle.mono_input_volume_controller.specs.declared.mono.MonoInputVolumeController.{MonoInputVolumeController}
 use Rattle.mono_input_volume_controller.specs.Mono.{created, handled_capture_output_used_change}
 use Rattle.mono_input_volume_controller.specs.SpeechLevel.{rms_error_of}
-use Rattle.input_volume_controller.specs.declared.channels.ChannelCall.{ChannelCall}
-use Rattle.input_volume_controller.specs.declared.channels.ChannelCall.TheVariants.{Initialize, CaptureOutputUsed, Clipping, Process}
-use Rattle.input_volume_controller.specs.Channels.{called, each_called}
+use Rattle.input_volume_controller.specs.Channels.{ChannelCall, Initialize, CaptureOutputUsed, Clipping, Process, called, each_called}
 use Rattle.input_volume_controller.specs.Control.{Control}
 use Rattle.input_volume_controller.specs.ControlCalls.{aggregated, with_applied_input_volumes, initialize, lower_channels, process_channels}
 use Rattle.input_volume_controller.specs.Controller.{fresh_with}

@@ -9,7 +9,7 @@ use lib.IntN.{pos, negsuc}
 use lib.Ieee.{Float, add, mul, div, lt, le, eq, of_int, of_bits}
 use lib.Signed.{le_z}
 use lib.ListN.{length, replicate}
-use Rattle.numbers.specs.declared.refusal.Outcome.TheVariants.{Accepted}
+use Rattle.std.specs.Prelude.{None, Ok}
 use Rattle.numbers.specs.First.{first, searched}
 use Rattle.numbers.specs.Listed.{listed}
 use Rattle.numbers.specs.Natural.{within_of, at_least_of}
@@ -27,15 +27,12 @@ use Rattle.clipping_predictor.specs.declared.settings.ClippingPredictorMode.{Cli
 use Rattle.clipping_predictor.specs.declared.settings.ClippingPredictorMode.TheVariants.{ClippingEventPrediction, AdaptiveStepClippingPeakPrediction, FixedStepClippingPeakPrediction}
 use Rattle.clipping_predictor.specs.declared.settings.ClippingPredictorConfig.{ClippingPredictorConfig}
 use Rattle.clipping_predictor.specs.declared.settings.Settings as Predictor
-use Rattle.clipping_predictor.specs.declared.settings.Checked.TheVariants as PredictorChecked
 use Rattle.clipping_predictor.specs.Settings as Predictors
 use Rattle.clipping_predictor.specs.Turned.{estimated}
 use Rattle.clipping_predictor.specs.Estimate.{drop_by, adaptive_drop, estimate_tree}
 use Rattle.clipping_predictor.specs.Predictor.{push_each, frame_fits}
 use Rattle.mono_input_volume_controller.specs.declared.config.Config.{Config}
 use Rattle.mono_input_volume_controller.specs.declared.config.Settings.{Settings}
-use Rattle.mono_input_volume_controller.specs.declared.config.Checked.TheVariants.{InOrder}
-use Rattle.mono_input_volume_controller.specs.declared.speech_level.SpeechLevel.TheVariants.{Absent}
 use Rattle.clipping_predictor_level_buffer.specs.Clipped.{count_of, clipped_in, total}
 use Rattle.clipping_predictor.specs.MostClipped.{most_clipped}
 use Rattle.input_volume_controller.specs.ClippedRatio.{clipped_ratio_of}
@@ -82,7 +79,7 @@ module _ (is_still : ℕ → List Float → Bool) (passes : T (is_still 1 (plus_
     samples = 1;
     lent = plus_zero ∷ [];
     probability = plus_zero;
-    level = Absent;
+    level = None;
     calm = calm;
     long = long;
     accepted = tt;
@@ -111,7 +108,7 @@ record Apart (new : Controller) (past leadIn : List Call) (last : Call) (one oth
   without : shown_by new leadIn last ≡ other
 
 too_few : (profile : Profile) (config : Config) (predictor : ClippingPredictorConfig) (new : Controller) (is_still : ℕ → List Float → Bool) (least : ℕ) (l : LeadIn 1 is_still (least - 2)) (past : List Call) (last : Call) (one other : ℕ)
-    → making_in profile (pos 1) config predictor ≡ record { answer = Accepted; controller = new } → ThresholdFromZero config → Apart new past (calls_of 1 is_still l) last one other → (one ≡ other → ⊥)
+    → making_in profile (pos 1) config predictor ≡ record { answer = Ok tt; controller = new } → ThresholdFromZero config → Apart new past (calls_of 1 is_still l) last one other → (one ≡ other → ⊥)
     → TooFewWith profile config predictor is_still least
 unfolding shown_by
 too_few profile config predictor new is_still least l past last one other made ratio apart differ = record {
@@ -128,7 +125,7 @@ settings wait = settings_from (waiting wait)
 
 -- which the making takes
 record Taken (wait : ℕ) : Type 0 where
-  in_order : settings_of (waiting wait) ≡ InOrder (settings wait)
+  in_order : settings_of (waiting wait) ≡ Ok (settings wait)
   ratio : ThresholdFromZero (waiting wait)
 
 takes_none : Taken 0
@@ -176,7 +173,7 @@ three_hundred_two = lead quiet silence_quiet (body 298) 302 tt (lit≤ tt)
 abbrev small_settings : ClippingPredictorMode → Predictor.Settings
 small_settings mode = record { enabled = true; mode = mode; window = 2; reference = 3; delay = 1; threshold = negsuc 999; margin = pos 1000 }
 
-small_checked : (mode : ClippingPredictorMode) → Predictors.settings_of (switched true (small mode)) ≡ PredictorChecked.InOrder (small_settings mode)
+small_checked : (mode : ClippingPredictorMode) → Predictors.settings_of (switched true (small mode)) ≡ Ok (small_settings mode)
 unfolding Predictors.settings_of Predictors.checked Predictors.levels_in_range at_least_of
 small_checked mode = refl
 

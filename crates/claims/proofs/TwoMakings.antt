@@ -6,7 +6,7 @@ use Prim.Native.Nat.{ℕ}
 use lib.IntN.{pos}
 use lib.Dec.{T}
 use lib.Ieee.{Float, binary32, le, of_int}
-use Rattle.numbers.specs.declared.refusal.Outcome.TheVariants.{Accepted}
+use Rattle.std.specs.Prelude.{Ok}
 use Rattle.numbers.proofs.Truths.{both_true}
 use Rattle.clipping_predictor_level_buffer.specs.Statistics.{plus_zero}
 use Rattle.clipping_predictor.specs.declared.settings.ClippingPredictorConfig.{ClippingPredictorConfig}
@@ -55,7 +55,7 @@ unfolding settings_from
 ratio config h = h
 
 -- of an accepted plain making, as it stands
-new_alike : (channels : ℕ) (config : Config) (predictor : ClippingPredictorConfig) → ThresholdFromZero config → (making_with (pos channels) config predictor).answer ≡ Accepted
+new_alike : (channels : ℕ) (config : Config) (predictor : ClippingPredictorConfig) → ThresholdFromZero config → (making_with (pos channels) config predictor).answer ≡ Ok tt
     → AlikeIn channels (making_with (pos channels) config predictor).controller
 new_alike channels config predictor word accepted =
     let f = made_fresh channels config predictor accepted in

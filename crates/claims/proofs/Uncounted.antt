@@ -7,9 +7,9 @@ use native.Mathlib.Omega.{arith}
 use lib.Dec.{leb}
 use lib.Ieee.{Float}
 use lib.ListN.{length, take, drop, length-map}
+use Rattle.std.specs.Prelude.{Err, None, Ok, Option, Result, Some}
+use Rattle.numbers.specs.declared.refusal.Refusal.{Refusal}
 use Rattle.clipping_predictor_level_buffer.specs.declared.level.Level.{Level}
-use Rattle.clipping_predictor_level_buffer.specs.declared.Metrics.{Metrics}
-use Rattle.clipping_predictor_level_buffer.specs.declared.Metrics.TheVariants.{Refused, Missing, Found}
 use Rattle.clipping_predictor_level_buffer.specs.Statistics.{mean, largest}
 use Rattle.clipping_predictor_level_buffer.specs.Clipped.{total}
 use Rattle.clipping_predictor_level_buffer.specs.Metrics.{mean_of, peak_of, clipped_of, metrics_over, found_if, metrics_if, partial_metrics}
@@ -56,16 +56,16 @@ metrics_uncounted items = λ i. record {
   clipped = no_total items 0 i;
 }
 
-abbrev uncounted_metrics : Metrics → Metrics
-uncounted_metrics (Found l) = Found (uncounted l)
-uncounted_metrics Missing = Missing
-uncounted_metrics (Refused cause) = Refused cause
+abbrev uncounted_metrics : Result (Option Level) Refusal → Result (Option Level) Refusal
+uncounted_metrics (Ok (Some l)) = Ok (Some (uncounted l))
+uncounted_metrics (Ok None) = Ok None
+uncounted_metrics (Err cause) = Err cause
 
 found_uncounted : (b : Bool) (items : List Level) → found_if b (map uncounted items) ≡ uncounted_metrics (found_if b items)
-found_uncounted true items = ap Found (metrics_uncounted items)
+found_uncounted true items = ap (λ (l : Level). Ok (Some l)) (metrics_uncounted items)
 found_uncounted false items = refl
 
-if_uncounted : (b : Bool) (m : Metrics) → metrics_if b (uncounted_metrics m) ≡ uncounted_metrics (metrics_if b m)
+if_uncounted : (b : Bool) (m : Result (Option Level) Refusal) → metrics_if b (uncounted_metrics m) ≡ uncounted_metrics (metrics_if b m)
 if_uncounted true m = refl
 if_uncounted false m = refl
 
@@ -84,13 +84,13 @@ mode_uncounted ClippingEventPrediction s window reference a = refl
 mode_uncounted AdaptiveStepClippingPeakPrediction s window reference a = refl
 mode_uncounted FixedStepClippingPeakPrediction s window reference a = refl
 
-windows_uncounted : (s : Settings) (a : Asked) (window reference : Metrics) → windows_tree s a (uncounted_metrics window) (uncounted_metrics reference) ≡ windows_tree s a window reference
+windows_uncounted : (s : Settings) (a : Asked) (window reference : Result (Option Level) Refusal) → windows_tree s a (uncounted_metrics window) (uncounted_metrics reference) ≡ windows_tree s a window reference
 unfolding windows_tree
-windows_uncounted s a (Found window) (Found reference) = mode_uncounted s.mode s window reference a
-windows_uncounted s a (Found window) Missing = refl
-windows_uncounted s a (Found window) (Refused cause) = refl
-windows_uncounted s a Missing reference = refl
-windows_uncounted s a (Refused cause) reference = refl
+windows_uncounted s a (Ok (Some window)) (Ok (Some reference)) = mode_uncounted s.mode s window reference a
+windows_uncounted s a (Ok (Some window)) (Ok None) = refl
+windows_uncounted s a (Ok (Some window)) (Err cause) = refl
+windows_uncounted s a (Ok None) reference = refl
+windows_uncounted s a (Err cause) reference = refl
 
 estimate_uncounted : (s : Settings) (records : List Level) (a : Asked) → estimate_tree s (map uncounted records) a ≡ estimate_tree s records a
 unfolding estimate_tree

@@ -9,13 +9,13 @@ use lib.IntN.{ℤ, pos, negsuc}
 use lib.Ieee.{Float, binary32, fits, lt, of_int}
 use lib.Ieee.Fits.{div-fits}
 use lib.ListN.{length, take, drop}
+use Rattle.std.specs.Prelude.{Err, None, Ok, Option, Result, Some}
+use Rattle.numbers.specs.declared.refusal.Refusal.{Refusal}
 use Rattle.levels.specs.declared.decibels.Decibels.TheVariants.{Finite}
 use Rattle.levels.specs.Decibels.{plus, minus, less, at_most, near, near_distance}
 use Rattle.levels.specs.Level.{d, h, dbfs, min_level_dbfs}
 use Rattle.levels.specs.Within.{tolerance}
 use Rattle.clipping_predictor_level_buffer.specs.declared.level.Level.{Level}
-use Rattle.clipping_predictor_level_buffer.specs.declared.Metrics.{Metrics}
-use Rattle.clipping_predictor_level_buffer.specs.declared.Metrics.TheVariants.{Found, Missing, Refused}
 use Rattle.clipping_predictor_level_buffer.specs.Metrics.{mean_of, peak_of, metrics_over, found_if, metrics_if, partial_metrics}
 use Rattle.clipping_predictor_level_buffer.specs.Statistics.{plus_zero, sum, mean, larger, second_if, largest}
 use Rattle.clipping_predictor.specs.declared.settings.ClippingPredictorMode.{ClippingPredictorMode}
@@ -59,10 +59,10 @@ metrics_fit : (records : List Level) → Every PeakFits records → Fit (metrics
 unfolding metrics_over largest mean
 metrics_fit records f = record { peak = fold_fits (map peak_of records) plus_zero zero_fits (peaks_fit records f); mean = div-fits binary32 (sum (map mean_of records)) (of_int binary32 (pos (length (map mean_of records)))) }
 
-abbrev FoundFit : Metrics → Type 0
-FoundFit (Found l) = Fit l
-FoundFit Missing = Unit {0}
-FoundFit (Refused cause) = Unit {0}
+abbrev FoundFit : Result (Option Level) Refusal → Type 0
+FoundFit (Ok (Some l)) = Fit l
+FoundFit (Ok None) = Unit {0}
+FoundFit (Err cause) = Unit {0}
 
 if_fit : (s t : Bool) (records : List Level) → Every PeakFits records → FoundFit (metrics_if s (found_if t records))
 if_fit true true records f = metrics_fit records f
@@ -141,13 +141,13 @@ module _ (e : ℕ) (some : 1 ≤ e) (room : e + e + (e + e) ≤ near_distance) w
 
   -- ---- from a ring's records
 
-  turned_windows : (s : Settings) (a : Asked) (m r : Metrics) → FoundFit m → FoundFit r → Turned (windows_tree s a m r) (E.windows_drop s a m r)
+  turned_windows : (s : Settings) (a : Asked) (m r : Result (Option Level) Refusal) → FoundFit m → FoundFit r → Turned (windows_tree s a m r) (E.windows_drop s a m r)
   unfolding windows_tree E.windows_drop
-  turned_windows s a (Found window) (Found reference) f g = turned_mode window reference f g s.mode s a
-  turned_windows s a (Found window) Missing f g = turned_leaf 0
-  turned_windows s a (Found window) (Refused cause) f g = turned_leaf 0
-  turned_windows s a Missing r f g = turned_leaf 0
-  turned_windows s a (Refused cause) r f g = turned_leaf 0
+  turned_windows s a (Ok (Some window)) (Ok (Some reference)) f g = turned_mode window reference f g s.mode s a
+  turned_windows s a (Ok (Some window)) (Ok None) f g = turned_leaf 0
+  turned_windows s a (Ok (Some window)) (Err cause) f g = turned_leaf 0
+  turned_windows s a (Ok None) r f g = turned_leaf 0
+  turned_windows s a (Err cause) r f g = turned_leaf 0
 
   turned_low : (low : Bool) (t : Tree ℕ) (drop : ℕ) → Turned t drop → Turned (unless_low low t) (cond low 0 drop)
   turned_low true t drop r = turned_leaf 0

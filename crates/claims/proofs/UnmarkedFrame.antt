@@ -7,8 +7,8 @@ use lib.Dec.{T, ltb}
 use lib.IntN.{ℤ}
 use lib.Ieee.{Float, nan, inf, fin, binary32, fits, lt}
 use lib.ListN.{length, drop}
-use Rattle.numbers.specs.declared.refusal.Outcome.{Outcome}
-use Rattle.numbers.specs.declared.refusal.Outcome.TheVariants.{Accepted, Refused}
+use Rattle.std.specs.Prelude.{Err, Ok, Result}
+use Rattle.numbers.specs.declared.refusal.Refusal.{Refusal}
 use Rattle.levels.specs.FloatParts.{magnitude_of}
 use Rattle.clipping_predictor_level_buffer.specs.declared.level.Level.{Level}
 use Rattle.clipping_predictor_level_buffer.specs.Level.{frame_record}
@@ -110,10 +110,10 @@ used_exact true samples lent c f g =
     (record { control = c.control; predictor = entered_if true samples lent c.predictor }) (entered_fits samples lent c.predictor f g)
 used_exact false samples lent c f g = record { fit = g; same = λ m. refl }
 
-refused_exact : (o : Outcome) (volumes : List ℕ) (samples : ℕ) (lent : List Float) (c : Controller) → Every (λ (x : Float). T (fits binary32 x)) lent → Every (Every PeakFits) c.predictor.rings
+refused_exact : (o : Result (Unit {0}) Refusal) (volumes : List ℕ) (samples : ℕ) (lent : List Float) (c : Controller) → Every (λ (x : Float). T (fits binary32 x)) lent → Every (Every PeakFits) c.predictor.rings
     → Exactly (unless_refused o volumes samples lent c) (unless_refused_by exact_predicted o volumes samples lent c)
-refused_exact (Refused cause) volumes samples lent c f g = record { fit = g; same = λ m. refl }
-refused_exact Accepted volumes samples lent c f g = used_exact c.control.used samples lent (with_volumes_applied volumes c) f g
+refused_exact (Err cause) volumes samples lent c f g = record { fit = g; same = λ m. refl }
+refused_exact (Ok tt) volumes samples lent c f g = used_exact c.control.used samples lent (with_volumes_applied volumes c) f g
 
 pub frame_exact : (most : Limits) (volumes : List ℤ) (samples : ℕ) (lent : List Float) (c : Controller) → Every (λ (x : Float). T (fits binary32 x)) lent → Every (Every PeakFits) c.predictor.rings
     → Exactly (analyze_input_audio most volumes samples lent c) (exact_frame most volumes samples lent c)

@@ -6,14 +6,12 @@ use Prim.Native.Nat.{ℕ}
 use lib.Dec.{T}
 use lib.IntN.{ℤ}
 use lib.Ieee.{Float, nan, binary32, fits}
+use Rattle.std.specs.Prelude.{None, Option, Some}
 use Rattle.clipping_predictor.specs.Predictor.{Predictor}
 use Rattle.clipping_predictor.specs.declared.settings.ClippingPredictorConfig.{ClippingPredictorConfig}
 use Rattle.mono_input_volume_controller.specs.declared.config.Config.{Config}
 use Rattle.mono_input_volume_controller.specs.declared.profile.Profile.{Profile}
-use Rattle.mono_input_volume_controller.specs.declared.speech_level.SpeechLevel.{SpeechLevel}
 use Rattle.input_volume_controller.specs.declared.InputVolumeController.{InputVolumeController}
-use Rattle.input_volume_controller.specs.declared.Applied.{Applied}
-use Rattle.input_volume_controller.specs.declared.Applied.TheVariants.{Nothing, Volume}
 use Rattle.input_volume_controller.specs.Controller.{Controller}
 use Rattle.input_volume_controller.specs.Profile.{making_in}
 use Rattle.input_volume_controller.specs.Reply.{Stepped}
@@ -31,15 +29,15 @@ use Rattle.claims.proofs.UnmarkedFrame.{Exactly, frame_exact}
 
 -- ---- one call
 
-recommend_rings : (used : Bool) (applied : ℕ) (probability : Float) (level : SpeechLevel) (c : Controller) → (recommend_if used applied probability level c).state.predictor ≡ c.predictor
+recommend_rings : (used : Bool) (applied : ℕ) (probability : Float) (level : Option Float) (c : Controller) → (recommend_if used applied probability level c).state.predictor ≡ c.predictor
 recommend_rings true applied probability level c = refl
 recommend_rings false applied probability level c = refl
 
-none_rings : (applied : Applied) (probability : Float) (level : SpeechLevel) (c : Controller) → (unless_none applied probability level c).state.predictor ≡ c.predictor
-none_rings Nothing probability level c = refl
-none_rings (Volume n) probability level c = recommend_rings c.control.used n probability level c
+none_rings : (applied : Option ℕ) (probability : Float) (level : Option Float) (c : Controller) → (unless_none applied probability level c).state.predictor ≡ c.predictor
+none_rings None probability level c = refl
+none_rings (Some n) probability level c = recommend_rings c.control.used n probability level c
 
-recommendation_rings : (probability : Float) (level : SpeechLevel) (c : Controller) → (recommend_input_volume probability level c).state.predictor ≡ c.predictor
+recommendation_rings : (probability : Float) (level : Option Float) (c : Controller) → (recommend_input_volume probability level c).state.predictor ≡ c.predictor
 unfolding recommend_input_volume
 recommendation_rings probability level c = none_rings c.control.applied probability level c
 

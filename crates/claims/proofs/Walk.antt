@@ -7,12 +7,9 @@ use lib.Dec.{T, ltb}
 use lib.IntN.{ℤ}
 use lib.Ieee.{Float, lt}
 use lib.ListN.{length}
-use Rattle.numbers.specs.declared.refusal.Outcome.{Outcome}
-use Rattle.numbers.specs.declared.refusal.Outcome.TheVariants.{Accepted, Refused}
+use Rattle.std.specs.Prelude.{Err, None, Ok, Option, Result, Some}
+use Rattle.numbers.specs.declared.refusal.Refusal.{Refusal}
 use Rattle.clipping_predictor.specs.Predictor.{entered_if}
-use Rattle.mono_input_volume_controller.specs.declared.speech_level.SpeechLevel.{SpeechLevel}
-use Rattle.input_volume_controller.specs.declared.Applied.{Applied}
-use Rattle.input_volume_controller.specs.declared.Applied.TheVariants.{Nothing, Volume}
 use Rattle.input_volume_controller.specs.ClippedRatio.{clipped_ratio_of}
 use Rattle.input_volume_controller.specs.Control.{Control, with_applied}
 use Rattle.input_volume_controller.specs.ControlCalls.{aggregated, with_applied_input_volumes, initialize, switch_capture, lower_channels, one_frame_more, process_channels}
@@ -36,7 +33,7 @@ pub record Hears (P : Control → Type 0) : Type 0 where
 pub record Runs (Takes : List ℕ → Type 0) (P : Control → Type 0) : Type 0 where
   pub hears : Hears P
   pub applies : (volumes : List ℕ) (c : Control) → length volumes ≡ length c.channels → AllMost volumes → Takes volumes → P c → P (with_applied_input_volumes volumes c)
-  pub processes : (probability : Float) (level : SpeechLevel) (c : Control) → P c → P (with_applied Nothing (process_channels probability level c))
+  pub processes : (probability : Float) (level : Option Float) (c : Control) → P c → P (with_applied None (process_channels probability level c))
   pub repeats : (c : Control) → P c → P (aggregated c)
 
 pub record Keeps (Takes : List ℕ → Type 0) (P : Control → Type 0) : Type 0 where
@@ -73,10 +70,10 @@ pub any_given : (most : Limits) (volumes : List ℤ) (samples : ℕ) (lent : Lis
 any_given most volumes samples lent c = λ numbers e t. tt
 
 module _ (Takes : List ℕ → Type 0) (P : Control → Type 0) (k : Runs Takes P) where
-  unless_refused_lem : (o : Outcome) (most : Limits) (volumes : List ℤ) (samples : ℕ) (lent : List Float) (c : Controller) → frame_outcome most (length c.control.channels) volumes samples lent ≡ o
+  unless_refused_lem : (o : Result (Unit {0}) Refusal) (most : Limits) (volumes : List ℤ) (samples : ℕ) (lent : List Float) (c : Controller) → frame_outcome most (length c.control.channels) volumes samples lent ≡ o
       → Given Takes most volumes samples lent c → P c.control → P (unless_refused o (numbers_in (numbers_of volumes)) samples lent c).state.control
-  unless_refused_lem (Refused cause) most volumes samples lent c e g h = h
-  unless_refused_lem Accepted most volumes samples lent c e g h =
+  unless_refused_lem (Err cause) most volumes samples lent c e g h = h
+  unless_refused_lem (Ok tt) most volumes samples lent c e g h =
       let n = length c.control.channels in
       let numbers = numbers_in (numbers_of volumes) in
       let t : T (is_accepted most n volumes samples lent) = told_accepted most volumes samples lent n e in
@@ -85,20 +82,20 @@ module _ (Takes : List ℕ → Type 0) (P : Control → Type 0) (k : Runs Takes 
       if_used_lem P k.hears c.control.used samples lent (with_volumes_applied numbers c)
       (k.applies numbers c.control (length_told volumes numbers set ∙ a.count) (told_set volumes numbers set).most (g numbers set t) h)
 
-  recommend_if_lem : (used : Bool) (applied : ℕ) (probability : Float) (level : SpeechLevel) (c : Controller) → P c.control → P (recommend_if used applied probability level c).state.control
+  recommend_if_lem : (used : Bool) (applied : ℕ) (probability : Float) (level : Option Float) (c : Controller) → P c.control → P (recommend_if used applied probability level c).state.control
   recommend_if_lem true applied probability level c h = k.processes probability level c.control h
   recommend_if_lem false applied probability level c h = k.repeats c.control h
 
-  unless_none_lem : (a : Applied) (probability : Float) (level : SpeechLevel) (c : Controller) → P c.control → P (unless_none a probability level c).state.control
-  unless_none_lem Nothing probability level c h = h
-  unless_none_lem (Volume applied) probability level c h = recommend_if_lem c.control.used applied probability level c h
+  unless_none_lem : (a : Option ℕ) (probability : Float) (level : Option Float) (c : Controller) → P c.control → P (unless_none a probability level c).state.control
+  unless_none_lem None probability level c h = h
+  unless_none_lem (Some applied) probability level c h = recommend_if_lem c.control.used applied probability level c h
 
   pub frame_keeps : (most : Limits) (volumes : List ℤ) (samples : ℕ) (lent : List Float) (c : Controller) → Given Takes most volumes samples lent c → P c.control
       → P (analyze_input_audio most volumes samples lent c).state.control
   unfolding analyze_input_audio
   frame_keeps most volumes samples lent c g h = unless_refused_lem (frame_outcome most (length c.control.channels) volumes samples lent) most volumes samples lent c refl g h
 
-  pub recommendation_keeps : (probability : Float) (level : SpeechLevel) (c : Controller) → P c.control → P (recommend_input_volume probability level c).state.control
+  pub recommendation_keeps : (probability : Float) (level : Option Float) (c : Controller) → P c.control → P (recommend_input_volume probability level c).state.control
   unfolding recommend_input_volume
   recommendation_keeps probability level c h = unless_none_lem c.control.applied probability level c h
 

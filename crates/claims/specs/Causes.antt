@@ -1,7 +1,6 @@
 -- Document 01, "What a call can say no to", as a table: for each call on a controller, and for its making, the causes about its inputs in their order (rising number, but of a frame 20 first: 20, 8, 9 and 18), and
 -- the first that holds. Definitions only.
-use Rattle.std.specs.Prelude.{Bool, true, false, not, ◌&&◌, ◌||◌, List, [], ◌∷◌, ◌++◌, ℕ, ◌*◌, ltb, eqb, ℤ, pos, negsuc, ◌+ℤ◌, Float, length}
-use Rattle.std.proofs.Math.Option.{Option, none, some}
+use Rattle.std.specs.Prelude.{Bool, true, false, not, ◌&&◌, ◌||◌, List, [], ◌∷◌, ◌++◌, ℕ, ◌*◌, ltb, eqb, ℤ, pos, negsuc, ◌+ℤ◌, Float, length, Option, None, Some}
 use Rattle.std.specs.Int.Signed.{lt_z, le_z}
 use Rattle.std.specs.Float.{binary32}
 use Rattle.std.specs.Float.Ieee.{le, of_int}
@@ -19,11 +18,11 @@ pub record Cause : Type 0 where
 
 -- "returns the first that holds"
 abbrev pub first_if : Bool → ℕ → Option ℕ → Option ℕ
-first_if true number later = some number
+first_if true number later = Some number
 first_if false number later = later
 
 abbrev pub first_of : List Cause → Option ℕ
-first_of [] = none
+first_of [] = None
 first_of (cause ∷ causes) = first_if cause.holds cause.number (first_of causes)
 
 -- "not 0 to 255", and the like

@@ -2,8 +2,7 @@
 -- channels." A channel's own volume is the recommended volume of its own state after the frame: the controller's volume, which the usual minimum raises, is another. Its applied volume is the one that this frame gave
 -- it. Said of every accepted frame, a clipping one or not, through any entry and with any set: a frame that does not lower the channels leaves each with its applied volume (`EachTook`), and so moves none. What two
 -- pasts within the classroom need is `TwoPastsInClassroom` (Made.antt), and which settings are refused `RefusedCalls`. It reaches the static library by `LibraryRunsAreRuns`. Definitions only.
-use Rattle.std.specs.Prelude.{◌≡◌, Bool, List, ℕ, ◌≤◌, ◌<◌, T, ℤ, pos, ◌≤ℤ◌, Float, length}
-use Rattle.numbers.specs.declared.refusal.Outcome.TheVariants.{Accepted, Refused}
+use Rattle.std.specs.Prelude.{◌≡◌, Bool, List, ℕ, ◌≤◌, ◌<◌, T, ℤ, pos, ◌≤ℤ◌, Float, length, Err, Ok}
 use Rattle.numbers.specs.declared.refusal.Refusal.TheVariants.{ClassroomProfile}
 use Rattle.clipping_predictor.specs.declared.settings.ClippingPredictorConfig.{ClippingPredictorConfig}
 use Rattle.clipping_predictor.specs.Predictor.{max_channels}
@@ -39,14 +38,14 @@ NeverMovedBelow least profile channels config predictor = (calls : List Call) �
 
 -- THE CLAIM, with every predictor that a making takes, for every channel and every list of calls
 pub record ClassroomKeepsMinimum : Type 0 where
-  pub defined : (channels : ℤ) (config : Config) (predictor : ClippingPredictorConfig) → (making_in Classroom channels config predictor).answer ≡ Accepted
+  pub defined : (channels : ℤ) (config : Config) (predictor : ClippingPredictorConfig) → (making_in Classroom channels config predictor).answer ≡ Ok tt
       → NeverMovedBelow config.min_input_volume Classroom channels config predictor
   -- of the code: c was made within the classroom and has had some calls, and hands back d for a frame that it accepts
   pub in_code : (channels : ℤ) (config : Config) (predictor : ClippingPredictorConfig) (calls : List Call) (heard : List Answer) (c d : InputVolumeController)
       (most : Limits) (volumes : List ℤ) (samples : ℕ) (lent : List Float) (near : Bool) → MadeAndHad Classroom channels config predictor calls heard c
       → Does c (frame most volumes samples lent) (mark near) d → NoneMovedBelow config.min_input_volume volumes (view_of d).control
   -- what it rests on, within every profile: it is never moved below clipped_level_min
-  pub at_level : (profile : Profile) (channels : ℤ) (config : Config) (predictor : ClippingPredictorConfig) → (making_in profile channels config predictor).answer ≡ Accepted
+  pub at_level : (profile : Profile) (channels : ℤ) (config : Config) (predictor : ClippingPredictorConfig) → (making_in profile channels config predictor).answer ≡ Ok tt
       → NeverMovedBelow config.clipped_level_min profile channels config predictor
 
 -- the default settings with this clipped_level_min
@@ -55,7 +54,7 @@ level_at level = defaults_but (pos level) defaults.clipped_ratio_threshold defau
 
 -- after some calls on a controller of one channel with these settings, an accepted frame has moved it off its applied volume and to this one
 pub record MovedTo (profile : Profile) (config : Config) (own : ℕ) : Type 0 where
-  pub made : (making_in profile (pos 1) config base_predictor).answer ≡ Accepted
+  pub made : (making_in profile (pos 1) config base_predictor).answer ≡ Ok tt
   pub calls : List Call
   pub most : Limits
   pub volumes : List ℤ
@@ -68,8 +67,8 @@ pub record MovedTo (profile : Profile) (config : Config) (own : ℕ) : Type 0 wh
 -- The sentence needs the profile: with a clipped_level_min of 10 below the default min_input_volume of 20, which the plain making takes and the classroom's refuses, a clipped frame moves a channel to 15, and the same
 -- claim is false. Within the classroom, at its edge, one moves a channel to the minimum itself, so the claim says something and cannot say more. And the profile has settings: the default ones.
 pub record ClassroomIsNeeded : Type 0 where
-  pub outside : (making_in Classroom (pos 1) (level_at 10) base_predictor).answer ≡ Refused ClassroomProfile
+  pub outside : (making_in Classroom (pos 1) (level_at 10) base_predictor).answer ≡ Err ClassroomProfile
   pub below : MovedTo Plain (level_at 10) 15
   pub refuted : NeverMovedBelow (level_at 10).min_input_volume Plain (pos 1) (level_at 10) base_predictor → ⊥
   pub at_the_edge : MovedTo Classroom (level_at 20) 20
-  pub defaults_in : (channels : ℕ) → 1 ≤ channels → channels ≤ max_channels → (making_in Classroom (pos channels) defaults base_predictor).answer ≡ Accepted
+  pub defaults_in : (channels : ℕ) → 1 ≤ channels → channels ≤ max_channels → (making_in Classroom (pos channels) defaults base_predictor).answer ≡ Ok tt

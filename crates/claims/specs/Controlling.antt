@@ -1,10 +1,8 @@
 -- The controlling channel. Document 02 (xiv): "the recommendation with capture on is the lowest of the channels after the usual minimum .., and the controlling channel is the lowest-numbered that holds it before that
 -- minimum": by the channels' own volumes. Definitions only.
-use Rattle.std.specs.Prelude.{◌≡◌, true, List, ℕ, ◌≤◌, ◌<◌, pos, Float, length, get_or}
+use Rattle.std.specs.Prelude.{◌≡◌, true, List, ℕ, ◌≤◌, ◌<◌, pos, Float, length, get_or, Option, Some}
 use Rattle.clipping_predictor.specs.declared.settings.Settings as Predictor
 use Rattle.mono_input_volume_controller.specs.declared.config.Settings.{Settings}
-use Rattle.mono_input_volume_controller.specs.declared.speech_level.SpeechLevel.{SpeechLevel}
-use Rattle.input_volume_controller.specs.declared.Applied.TheVariants.{Volume}
 use Rattle.input_volume_controller.specs.Channels.{no_channel}
 use Rattle.input_volume_controller.specs.Control.{Control}
 use Rattle.input_volume_controller.specs.ControlCalls.{raised_for}
@@ -23,9 +21,9 @@ pub record HoldsLowest (c : Control) : Type 0 where
 
 -- with capture on a recommendation is the volume that the controlling channel then has, "raised to min_input_volume if a volume above 0 is pending"
 abbrev pub RecommendsLowest : Controller → Type 0
-RecommendsLowest c = (applied : ℕ) → c.control.used ≡ true → c.control.applied ≡ Volume applied → (probability : Float) (level : SpeechLevel)
+RecommendsLowest c = (applied : ℕ) → c.control.used ≡ true → c.control.applied ≡ Some applied → (probability : Float) (level : Option Float)
     → let s = step c (recommendation probability level) in
-    s.reply ≡ volume (pos (raised_for (Volume applied) c.control.settings.least (volume_of s.state.control s.state.control.controlling)))
+    s.reply ≡ volume (pos (raised_for (Some applied) c.control.settings.least (volume_of s.state.control s.state.control.controlling)))
 
 -- THE CLAIM, after any calls with any sets on a fresh controller with a channel
 pub record ControllingIsLowest : Type 0 where

@@ -1,9 +1,8 @@
 -- Document 02 (xi): the counts of clipped samples in the records. "Step, near mark and recommendation stay the same for every frame": controllers that are equal but for the counts answer every list of calls
 -- alike, marks, volumes, refusals and all. And how large a count and a total can be. Definitions only.
-use Rattle.std.specs.Prelude.{◌≡◌, List, map, ◌≤◌, ℤ, Float, length}
+use Rattle.std.specs.Prelude.{◌≡◌, List, map, ◌≤◌, ℤ, Float, length, Ok, Some}
 use Rattle.clipping_predictor_level_buffer.specs.declared.level.Level.{Level}
 use Rattle.clipping_predictor_level_buffer.specs.declared.ClippingPredictorLevelBuffer.{ClippingPredictorLevelBuffer}
-use Rattle.clipping_predictor_level_buffer.specs.declared.Metrics.TheVariants.{Found}
 use Rattle.clipping_predictor_level_buffer.specs.Level.{frame_record}
 use Rattle.clipping_predictor_level_buffer.specs.Ring.{stored}
 use Rattle.clipping_predictor_level_buffer.specs.Ring as Ring
@@ -44,4 +43,4 @@ pub record CountsAreUnread : Type 0 where
 -- THE CLAIM: a frame's count is at most its samples, so at most 480, and a total at most 64 times as much
 pub record CountsWithin : Type 0 where
   pub frames : (samples : List Float) → (frame_record samples).clipped ≤ length samples
-  pub totals : (r : ClippingPredictorLevelBuffer) (delay items : ℤ) (metrics : Level) → Ring.Good r → compute_partial_metrics r.capacity (stored r) delay items ≡ Found metrics → metrics.clipped ≤ 30720
+  pub totals : (r : ClippingPredictorLevelBuffer) (delay items : ℤ) (metrics : Level) → Ring.Good r → compute_partial_metrics r.capacity (stored r) delay items ≡ Ok (Some metrics) → metrics.clipped ≤ 30720

@@ -1,8 +1,7 @@
 -- The other side of "alone": of the parts that the replies depend on (Depends.antt) none can be spared. For each there are two controllers that agree in all others and do not reply alike. And the
 -- controller's own volume is said by none of them: it may differ where all agree. All these had sets of equal volumes; where one set was of unequal ones, controllers that agree in every part may reply
 -- differently. Definitions only.
-use Rattle.std.specs.Prelude.{◌≡◌, pos}
-use Rattle.numbers.specs.declared.refusal.Outcome.TheVariants.{Accepted}
+use Rattle.std.specs.Prelude.{◌≡◌, pos, Ok}
 use Rattle.clipping_predictor.specs.declared.settings.ClippingPredictorConfig.{ClippingPredictorConfig}
 use Rattle.mono_input_volume_controller.specs.declared.config.Config.{Config}
 use Rattle.input_volume_controller.specs.Controller.{fresh_with, making_with}
@@ -12,7 +11,7 @@ use Rattle.claims.specs.Depends.{History, standing, Even, Part, AgreeIn, AgreeIn
 pub record Taken (h : History) : Type 0 where
   pub config : Config
   pub predictor : ClippingPredictorConfig
-  pub made : making_with (pos h.channels) config predictor ≡ record { answer = Accepted; controller = fresh_with h.predictor h.settings h.channels }
+  pub made : making_with (pos h.channels) config predictor ≡ record { answer = Ok tt; controller = fresh_with h.predictor h.settings h.channels }
 
 -- two controllers that makings took, after calls of their own
 pub record Two : Type 0 where

@@ -1,12 +1,11 @@
 -- What the clipping predictors would decide with exact logarithms, over whole numbers alone: no level is computed, and nothing is rounded. A number of thousandths of a dB stands as the
 -- fraction whose decimal logarithm it is: d(v) as v ^ 20000, h(a) as a ^ 10000, t thousandths as 10 ^ t, a sum as a product, a difference as a quotient. Such numbers are compared by
 -- comparing the fractions. Infinite ones and those that are no number follow IEEE 754, as in `levels/specs/Decibels.antt`. Definitions only.
-use Rattle.std.specs.Prelude.{Bool, true, false, cond, List, ℕ, zero, suc, ◌*◌, ◌^◌, max, leb, ltb, ℤ, pos, negsuc, Float}
+use Rattle.std.specs.Prelude.{Bool, true, false, cond, List, ℕ, zero, suc, ◌*◌, ◌^◌, max, leb, ltb, ℤ, pos, negsuc, Float, Err, None, Ok, Option, Result, Some}
 use Rattle.std.specs.Float.{nan, inf, fin}
 use Rattle.std.specs.Float.Ieee.{up, down}
+use Rattle.numbers.specs.declared.refusal.Refusal.{Refusal}
 use Rattle.clipping_predictor_level_buffer.specs.declared.level.Level.{Level}
-use Rattle.clipping_predictor_level_buffer.specs.declared.Metrics.{Metrics}
-use Rattle.clipping_predictor_level_buffer.specs.declared.Metrics.TheVariants.{Found, Missing, Refused}
 use Rattle.clipping_predictor_level_buffer.specs.Metrics.{partial_metrics}
 use Rattle.clipping_predictor.specs.declared.settings.ClippingPredictorMode.{ClippingPredictorMode}
 use Rattle.clipping_predictor.specs.declared.settings.ClippingPredictorMode.TheVariants.{ClippingEventPrediction, AdaptiveStepClippingPeakPrediction, FixedStepClippingPeakPrediction}
@@ -140,12 +139,12 @@ mode_drop AdaptiveStepClippingPeakPrediction s window reference a = peak_drop s.
 mode_drop FixedStepClippingPeakPrediction s window reference a = peak_drop s.threshold window reference (drop_by a a.step)
 
 -- "missing metrics, of either window, give none before any comparison"
-unfoldable pub windows_drop : Settings → Asked → Metrics → Metrics → ℕ
-windows_drop s a (Found window) (Found reference) = mode_drop s.mode s window reference a
-windows_drop s a (Found window) Missing = 0
-windows_drop s a (Found window) (Refused cause) = 0
-windows_drop s a Missing reference = 0
-windows_drop s a (Refused cause) reference = 0
+unfoldable pub windows_drop : Settings → Asked → Result (Option Level) Refusal → Result (Option Level) Refusal → ℕ
+windows_drop s a (Ok (Some window)) (Ok (Some reference)) = mode_drop s.mode s window reference a
+windows_drop s a (Ok (Some window)) (Ok None) = 0
+windows_drop s a (Ok (Some window)) (Err cause) = 0
+windows_drop s a (Ok None) reference = 0
+windows_drop s a (Err cause) reference = 0
 
 -- "An estimate at level ≤ min is none": the drop that exact logarithms lead to, 0 for none
 unfoldable pub exact_drop : Settings → List Level → Asked → ℕ

@@ -1,5 +1,5 @@
 -- Document 01, demand 3: the frames that are accepted, those that are quiet, and the lead-in. Definitions only.
-use Rattle.std.specs.Prelude.{Bool, true, false, not, ◌&&◌, ◌||◌, List, [], ◌∷◌, ◌++◌, map, ℕ, ◌+◌, ◌≤◌, T, leb, ℤ, pos, negsuc, Float}
+use Rattle.std.specs.Prelude.{Bool, true, false, not, ◌&&◌, ◌||◌, List, [], ◌∷◌, ◌++◌, map, ℕ, ◌+◌, ◌≤◌, T, leb, ℤ, pos, negsuc, Float, Option}
 use Rattle.std.specs.Float.{binary32}
 use Rattle.std.specs.Float.Ieee.{is_nan, le, of_int}
 use Rattle.levels.specs.declared.decibels.Decibels.TheVariants.{Finite}
@@ -11,7 +11,6 @@ use Rattle.clipping_predictor.specs.declared.settings.ClippingPredictorMode.TheV
 use Rattle.clipping_predictor.specs.declared.settings.Settings.{Settings}
 use Rattle.clipping_predictor.specs.Estimate.{whole_db}
 use Rattle.clipping_predictor.specs.Predictor.{levels_of}
-use Rattle.mono_input_volume_controller.specs.declared.speech_level.SpeechLevel.{SpeechLevel}
 use Rattle.clipping_predictor_level_buffer.specs.Clipped.{is_clipped, one_if}
 use Rattle.input_volume_controller.specs.declared.limits.Limits.{Limits}
 use Rattle.input_volume_controller.specs.Calls.{Call, frame, recommendation, initialise, capture_switch}
@@ -93,7 +92,7 @@ module _ (channels : ℕ) (is_still : ℕ → List Float → Bool) where
     pub after_frame : List Call
     -- its recommendation
     pub probability : Float
-    pub level : SpeechLevel
+    pub level : Option Float
     pub after_recommendation : List Call
     pub calm : T (all is_calm body)
     pub long : enough ≤ accepted_in channels body

@@ -1,11 +1,10 @@
 -- The static library. A sequence of its calls, with those that take the control alone put together as include/agc2.h and bindings/rust do, is a run of the controller, and what C and Rust get are that
 -- run's answers in numbers. So every claim about runs reaches them. The contracts of the exported functions stand in `agc2/src/lib.rt`. Definitions only.
-use Rattle.std.specs.Prelude.{◌≡◌, Bool, List, [], ◌∷◌, ℕ, ℤ, Float}
+use Rattle.std.specs.Prelude.{◌≡◌, Bool, List, [], ◌∷◌, ℕ, ℤ, Float, Option}
 use Rattle.clipping_predictor_level_buffer.specs.declared.level.Level.{Level}
 use Rattle.clipping_predictor.specs.declared.settings.ClippingPredictorConfig.{ClippingPredictorConfig}
 use Rattle.mono_input_volume_controller.specs.declared.config.Config.{Config}
 use Rattle.mono_input_volume_controller.specs.declared.profile.Profile.{Profile}
-use Rattle.mono_input_volume_controller.specs.declared.speech_level.SpeechLevel.{SpeechLevel}
 use Rattle.input_volume_controller.specs.declared.limits.Limits.{Limits}
 use Rattle.input_volume_controller.specs.declared.plain.PlainControl.{PlainControl}
 use Rattle.input_volume_controller.specs.Plain.{whole_control}
@@ -53,7 +52,7 @@ pub data LibraryCall : Agc2Controller → Call → Numbers → Agc2Controller �
   -- volumes (`AnalyzedOf`)
   framed : {c d : Agc2Controller} {most : Limits} {volumes : List ℤ} {samples : ℕ} {lent : List Float} → AnalyzedEachOf most (whole_of c) volumes samples lent d
       → LibraryCall c (frame most volumes samples lent) (of_frame (record { refusal = d.refusal; near = d.near })) d
-  recommended : {c : Agc2Controller} {control : Agc2Control} {probability : Float} {level : SpeechLevel} → RecommendedOf (whole_control c.control.control) probability level control
+  recommended : {c : Agc2Controller} {control : Agc2Control} {probability : Float} {level : Option Float} → RecommendedOf (whole_control c.control.control) probability level control
       → LibraryCall c (recommendation probability level) (of_recommendation (record { present = control.present; volume = control.volume })) (with_control control c)
   initialised : {c : Agc2Controller} {state : PlainControl} → ControlDoes (whole_control c.control.control) initialise done (whole_control state)
       → LibraryCall c initialise nothing (with_state state c)

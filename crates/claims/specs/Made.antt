@@ -1,8 +1,7 @@
 -- Controllers from their making on, within any profile and with any predictor: one of the code whose making was accepted and that has had some calls; and demand 3 in these words, "two controllers with equal settings": two whose
 -- making within the same profile, with the same channel count, configuration and predictor, was accepted. Definitions only.
-use Rattle.std.specs.Prelude.{◌≡◌, Bool, List, ◌++◌, ℕ, T, ℤ, pos, Float}
+use Rattle.std.specs.Prelude.{◌≡◌, Bool, List, ◌++◌, ℕ, T, ℤ, pos, Float, Ok}
 use Rattle.std.specs.Float.Ieee.{le}
-use Rattle.numbers.specs.declared.refusal.Outcome.TheVariants.{Accepted}
 use Rattle.clipping_predictor_level_buffer.specs.Statistics.{plus_zero}
 use Rattle.clipping_predictor.specs.declared.settings.ClippingPredictorConfig.{ClippingPredictorConfig}
 use Rattle.mono_input_volume_controller.specs.declared.config.Config.{Config}
@@ -23,7 +22,7 @@ use Rattle.claims.specs.TwoPasts.{AlikeAfter, enough_for, enough}
 pub record MadeAndHad (profile : Profile) (channels : ℤ) (config : Config) (predictor : ClippingPredictorConfig) (calls : List Call) (heard : List Answer) (c : InputVolumeController) : Type 0 where
   pub made : Created
   pub created : CreatedIn profile channels config predictor made
-  pub accepted : made.answer ≡ Accepted
+  pub accepted : made.answer ≡ Ok tt
   pub run : Run made.controller calls heard c
 
 -- ---- two pasts
@@ -34,7 +33,7 @@ ThresholdFromZero config = T (le plus_zero config.clipped_ratio_threshold)
 
 -- a making that is accepted, with such a threshold
 pub record MayBeCompared (profile : Profile) (channels : ℕ) (config : Config) (predictor : ClippingPredictorConfig) : Type 0 where
-  pub accepted : (making_in profile (pos channels) config predictor).answer ≡ Accepted
+  pub accepted : (making_in profile (pos channels) config predictor).answer ≡ Ok tt
   pub ratio : ThresholdFromZero config
 
 -- two controllers of such a making cannot be told apart after the same lead-in with so many accepted frames, each of them still, whatever their pasts: in the definition, and in the code
@@ -62,7 +61,7 @@ TwoPasts = (profile : Profile) (channels : ℕ) (config : Config) (predictor : C
 -- THE CLAIM within the classroom, by document 02 (xii): "The quiet-past comparison needs no word on the clipped-ratio threshold". That the plain one needs a word is `word_needed` (Needed.antt)
 abbrev pub TwoPastsInClassroom : Type 0
 TwoPastsInClassroom =
-    (channels : ℕ) (config : Config) (predictor : ClippingPredictorConfig) → (making_in Classroom (pos channels) config predictor).answer ≡ Accepted → ComparedAsMade Classroom channels config predictor
+    (channels : ℕ) (config : Config) (predictor : ClippingPredictorConfig) → (making_in Classroom (pos channels) config predictor).answer ≡ Ok tt → ComparedAsMade Classroom channels config predictor
 
 -- its corollary with the base's predictor, by document 01: quiet is every sample from -29,000 to 29,000, and the frames are the larger of 14 and the clipping wait plus 4
 abbrev pub TwoPastsByDefault : Type 0

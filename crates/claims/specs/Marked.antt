@@ -4,17 +4,16 @@
 -- which drops an estimate may have, if each near comparison may be answered either way and each near ceiling taken on either side, with the number 6, and no tree.
 -- They reach the code by the contracts of `ClippingPredictor::estimate_clipped_level_step`, whose mark is `is_near` of the estimate, and of `InputVolumeController::{analyze_input_audio,
 -- analyze_input_audio_each, spotter_analyze_input_audio, spotter_analyze_input_audio_each}`, whose answer is the reply of `step`. Definitions only.
-use Rattle.std.specs.Prelude.{◌≡◌, ◌⊎◌, ◌↔◌, Bool, true, false, cond, ℕ, ◌+◌, ◌*◌, ◌/◌, ◌<◌, max, T, leb, ℤ, pos, negsuc, Float, length, replicate}
+use Rattle.std.specs.Prelude.{◌≡◌, ◌⊎◌, ◌↔◌, Bool, true, false, cond, ℕ, ◌+◌, ◌*◌, ◌/◌, ◌<◌, max, T, leb, ℤ, pos, negsuc, Float, length, replicate, Err, None, Ok, Option, Result, Some}
 use mathlib.Core.List.{List, [], ◌∷◌, map, foldl}
 use Rattle.std.specs.Float.{binary32}
 use Rattle.std.specs.Float.Ieee.{of_int}
+use Rattle.numbers.specs.declared.refusal.Refusal.{Refusal}
 use Rattle.levels.specs.declared.decibels.Decibels.{Decibels}
 use Rattle.levels.specs.declared.decibels.Decibels.TheVariants.{Finite, PlusInfinity, MinusInfinity, NotANumber}
 use Rattle.levels.specs.Decibels.{minus, less, at_most, within}
 use Rattle.levels.specs.Level.{dbfs}
 use Rattle.clipping_predictor_level_buffer.specs.declared.level.Level.{Level}
-use Rattle.clipping_predictor_level_buffer.specs.declared.Metrics.{Metrics}
-use Rattle.clipping_predictor_level_buffer.specs.declared.Metrics.TheVariants.{Found, Missing, Refused}
 use Rattle.clipping_predictor_level_buffer.specs.Metrics.{partial_metrics}
 use Rattle.clipping_predictor.specs.declared.settings.ClippingPredictorMode.{ClippingPredictorMode}
 use Rattle.clipping_predictor.specs.declared.settings.ClippingPredictorMode.TheVariants.{ClippingEventPrediction, AdaptiveStepClippingPeakPrediction, FixedStepClippingPeakPrediction}
@@ -24,7 +23,6 @@ use Rattle.clipping_predictor.specs.declared.modes.Estimated.{Estimated}
 use Rattle.clipping_predictor.specs.Turned.{Each, only, estimated, is_near}
 use Rattle.clipping_predictor.specs.Estimate.{drop_by, adaptive_drop, crest_factor, whole_db, projected_peak, capacity_of, estimate_tree}
 use Rattle.clipping_predictor.specs.Predictor.{Predictor, entered_if}
-use Rattle.mono_input_volume_controller.specs.declared.speech_level.SpeechLevel.{SpeechLevel}
 use Rattle.mono_input_volume_controller.specs.Config.{defaults, settings_from}
 use Rattle.input_volume_controller.specs.declared.limits.Limits.{Limits}
 use Rattle.input_volume_controller.specs.Limits.{plain_limits}
@@ -92,12 +90,12 @@ MayDropIn AdaptiveStepClippingPeakPrediction s window reference a = MayDropAtPea
 MayDropIn FixedStepClippingPeakPrediction s window reference a = MayDropAtPeak (whole_db s.threshold) window reference (λ (n : ℕ). n ≡ drop_by a a.step)
 
 -- "missing metrics, of either window, give none before any comparison"
-unfoldable pub MayDropOver : Settings → Asked → Metrics → Metrics → ℕ → Type 0
-MayDropOver s a (Found window) (Found reference) n = MayDropIn s.mode s window reference a n
-MayDropOver s a (Found window) Missing n = n ≡ 0
-MayDropOver s a (Found window) (Refused cause) n = n ≡ 0
-MayDropOver s a Missing reference n = n ≡ 0
-MayDropOver s a (Refused cause) reference n = n ≡ 0
+unfoldable pub MayDropOver : Settings → Asked → Result (Option Level) Refusal → Result (Option Level) Refusal → ℕ → Type 0
+MayDropOver s a (Ok (Some window)) (Ok (Some reference)) n = MayDropIn s.mode s window reference a n
+MayDropOver s a (Ok (Some window)) (Ok None) n = n ≡ 0
+MayDropOver s a (Ok (Some window)) (Err cause) n = n ≡ 0
+MayDropOver s a (Ok None) reference n = n ≡ 0
+MayDropOver s a (Err cause) reference n = n ≡ 0
 
 -- "An estimate at level ≤ min is none"
 abbrev pub MayDropUnless : Bool → (ℕ → Type 0) → ℕ → Type 0
@@ -155,7 +153,7 @@ pub record MarkedExactly : Type 0 where
       → ((step c (frame most (map pos volumes) samples lent)).reply ≡ mark true) ↔ FrameMatters c most volumes samples lent
   pub answered : (c : Controller) (most : Limits) (volumes : List ℕ) (samples : ℕ) (lent : List Float) → T (is_accepted most (length c.control.channels) (map pos volumes) samples lent)
       → (near : Bool) × ((step c (frame most (map pos volumes) samples lent)).reply ≡ mark near)
-  pub recommendations : (c : Controller) (probability : Float) (level : SpeechLevel) (near : Bool) → (step c (recommendation probability level)).reply ≡ mark near → ⊥
+  pub recommendations : (c : Controller) (probability : Float) (level : Option Float) (near : Bool) → (step c (recommendation probability level)).reply ≡ mark near → ⊥
   -- a peak of 29,226 has the level -994, which is 6 above the threshold, and so has its P: near, and a turn would predict nothing; one of 29,229 has -993, 7 above it, and is not near; with a frame
   -- fewer metrics are missing, and nothing is compared; and one of 32,766 has a P of -1, near 0 dB, but the ceilings 0 and 1 both lead to the default step
   pub one_marked : reply_after 9 29226 ≡ mark true

@@ -1,11 +1,10 @@
 -- Parts of the lead-in that are needed: without the initialise, with a last volume of 0 (of one channel of two is enough), or with capture switched off in its list, two pasts can be told apart; and so they can, with
 -- nothing left out, where the clipped-ratio threshold is below zero. Definitions only.
-use Rattle.std.specs.Prelude.{◌≡◌, true, false, List, [], ◌∷◌, ◌++◌, map, ℕ, pos, negsuc}
+use Rattle.std.specs.Prelude.{◌≡◌, true, false, List, [], ◌∷◌, ◌++◌, map, ℕ, pos, negsuc, Ok}
 use Rattle.std.specs.Float.{binary32}
 use Rattle.std.specs.Float.Ieee.{of_int}
 use Rattle.mono_input_volume_controller.specs.declared.config.Config.{Config}
 use Rattle.mono_input_volume_controller.specs.declared.config.Settings.{Settings}
-use Rattle.mono_input_volume_controller.specs.declared.config.Checked.TheVariants.{InOrder}
 use Rattle.mono_input_volume_controller.specs.Config.{defaults, settings_of}
 use Rattle.input_volume_controller.specs.Controller.{fresh}
 use Rattle.input_volume_controller.specs.Calls.{Call, frame, recommendation, initialise, capture_switch}
@@ -40,7 +39,7 @@ below_zero = defaults_but defaults.clipped_level_min (of_int binary32 (negsuc 0)
 -- with the default settings but no clipping wait, which the making takes, and this lead-in, each change lets two pasts be told apart
 pub record PartsAreNeeded : Type 0 where
   pub settings : Settings
-  pub made : settings_of (waiting 0) ≡ InOrder settings
+  pub made : settings_of (waiting 0) ≡ Ok settings
   pub ratio : RatioFromZero settings
   pub lead : LeadIn 1 quiet (enough settings)
   pub initialise_needed : AlikeAfter (fresh settings 1) (without_initialise lead) → ⊥
@@ -50,6 +49,6 @@ pub record PartsAreNeeded : Type 0 where
   pub capture_needed : AlikeAfter (fresh settings 1) (with_capture_off lead) → ⊥
   -- and with these settings, which the making takes too, a whole lead-in does not do
   pub wordless : Settings
-  pub wordless_made : settings_of below_zero ≡ InOrder wordless
+  pub wordless_made : settings_of below_zero ≡ Ok wordless
   pub wordless_lead : LeadIn 1 quiet (enough wordless)
   pub word_needed : AlikeAfter (fresh wordless 1) (calls_of 1 quiet wordless_lead) → ⊥

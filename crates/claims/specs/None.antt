@@ -2,10 +2,9 @@
 -- code by the contracts of `InputVolumeController::{new, with_predictor, classroom, classroom_with_predictor, in_profile, analyze_input_audio, analyze_input_audio_each, spotter_analyze_input_audio,
 -- spotter_analyze_input_audio_each, recommend_input_volume, initialize, handle_capture_output_used_change}`: the first five hand back a fresh controller (`CreatedOf`, `CreatedWith`, `CreatedIn`), each other
 -- one step of the definition, and its reply (`Does`), so a run of the functions is a run of `after` (Run.antt). Definitions only.
-use Rattle.std.specs.Prelude.{◌≡◌, Bool, true, false, not, ◌&&◌, ◌||◌, ◌↔◌, List, [], ◌∷◌, reverse, ℕ, Float}
+use Rattle.std.specs.Prelude.{◌≡◌, Bool, true, false, not, ◌&&◌, ◌||◌, ◌↔◌, List, [], ◌∷◌, reverse, ℕ, Float, Option}
 use Rattle.clipping_predictor.specs.declared.settings.Settings as Predictor
 use Rattle.mono_input_volume_controller.specs.declared.config.Settings.{Settings}
-use Rattle.mono_input_volume_controller.specs.declared.speech_level.SpeechLevel.{SpeechLevel}
 use Rattle.input_volume_controller.specs.Controller.{fresh_with}
 use Rattle.input_volume_controller.specs.Reply.{none}
 use Rattle.input_volume_controller.specs.Calls.{Call, frame, recommendation, initialise, capture_switch, step, after}
@@ -23,5 +22,5 @@ frame_since channels [] = false
 
 -- THE CLAIM, over every list of calls from a fresh controller
 abbrev pub NoneExactly : Type 0
-NoneExactly = (predictor : Predictor.Settings) (s : Settings) (count : ℕ) (calls : List Call) (probability : Float) (level : SpeechLevel)
+NoneExactly = (predictor : Predictor.Settings) (s : Settings) (count : ℕ) (calls : List Call) (probability : Float) (level : Option Float)
     → ((step (after (fresh_with predictor s count) calls) (recommendation probability level)).reply ≡ none) ↔ (frame_since count (reverse calls) ≡ false)

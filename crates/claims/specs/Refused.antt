@@ -4,9 +4,8 @@
 -- in_profile, analyze_input_audio, analyze_input_audio_each, spotter_analyze_input_audio, spotter_analyze_input_audio_each, recommend_input_volume, initialize, handle_capture_output_used_change}`: what the
 -- makings hand back is `making_in` (`CreatedIn`; `CreatedOf` and `CreatedWith` are it within the plain profile), each other call one `step` (`Does`); and a refused frame hands back the very struct
 -- (`AnalyzedEachOf`, `same`), its unused places too. Definitions only.
-use Rattle.std.specs.Prelude.{◌≡◌, ℕ, ℤ, length}
-use Rattle.std.proofs.Math.Option.{Option, none, some}
-use Rattle.numbers.specs.Said.{refused, refusal_in, outcome_says}
+use Rattle.std.specs.Prelude.{◌≡◌, ℕ, ℤ, length, Option, None, Some}
+use Rattle.numbers.specs.Said.{refused, refusal_in, said}
 use Rattle.clipping_predictor.specs.declared.settings.ClippingPredictorConfig.{ClippingPredictorConfig}
 use Rattle.mono_input_volume_controller.specs.declared.config.Config.{Config}
 use Rattle.mono_input_volume_controller.specs.declared.profile.Profile.{Profile}
@@ -19,21 +18,21 @@ use Rattle.claims.specs.Causes.{first_of, call_causes, settings_causes, profile_
 
 -- the number that a reply refuses with
 abbrev pub refused_by : Reply → Option ℕ
-refused_by (mark near) = none
-refused_by (refusal number) = some number
-refused_by (volume v) = none
-refused_by Reply.none = none
-refused_by done = none
+refused_by (mark near) = None
+refused_by (refusal number) = Some number
+refused_by (volume v) = None
+refused_by Reply.none = None
+refused_by done = None
 
 -- THE CLAIM
 pub record RefusedCalls : Type 0 where
   pub unchanged : (c : Controller) (call : Call) (number : ℕ) → (step c call).reply ≡ refusal number → (step c call).state ≡ c
   pub first : (c : Controller) (call : Call) → refused_by (step c call).reply ≡ first_of (call_causes (length c.control.channels) call)
   pub making : (profile : Profile) (channels : ℤ) (config : Config) (predictor : ClippingPredictorConfig)
-      → refusal_in (outcome_says (making_in profile channels config predictor).answer) ≡ first_of (making_causes profile channels config predictor)
+      → refusal_in (said (making_in profile channels config predictor).answer) ≡ first_of (making_causes profile channels config predictor)
   -- the base's predictor has no fault: with it the causes are 1 to 6, and those of the profile
   pub making_by_default : (profile : Profile) (channels : ℤ) (config : Config)
-      → refusal_in (outcome_says (making_in profile channels config base_predictor).answer) ≡ first_of (settings_causes channels config (profile_faults profile config))
+      → refusal_in (said (making_in profile channels config base_predictor).answer) ≡ first_of (settings_causes channels config (profile_faults profile config))
   -- beside a refusal there always stands the same controller, of one channel with the default settings and the base's predictor
-  pub unmade : (profile : Profile) (channels : ℤ) (config : Config) (predictor : ClippingPredictorConfig) (number : ℕ) → outcome_says (making_in profile channels config predictor).answer ≡ refused number
+  pub unmade : (profile : Profile) (channels : ℤ) (config : Config) (predictor : ClippingPredictorConfig) (number : ℕ) → said (making_in profile channels config predictor).answer ≡ refused number
       → (making_in profile channels config predictor).controller ≡ fresh (settings_from defaults) 1

@@ -3,22 +3,20 @@
 -- It reaches the code by the contracts of `compute_volume_update` (gain_map), `create_clipping_predictor`, `ClippingPredictor::{analyze, estimate_clipped_level_step}` and `measuring::measure_channels` (clipping_predictor),
 -- `level::{measure, measure_two}`, `ClippingPredictorLevelBuffer::{new, push, push_level, compute_partial_metrics}` and `push_into` (clipping_predictor_level_buffer) and `get_speech_level_rms_error_db` (mono_input_volume_controller): each
 -- says that the answer's number and values are those of the definition that is named here. Definitions only.
-use Rattle.std.specs.Prelude.{◌≡◌, not, ◌||◌, List, [], ◌∷◌, ℕ, ◌*◌, ◌≤◌, ltb, eqb, ℤ, pos, negsuc, ◌+ℤ◌, Float, length}
-use Rattle.std.proofs.Math.Option.{some}
+use Rattle.std.specs.Prelude.{◌≡◌, not, ◌||◌, List, [], ◌∷◌, ℕ, ◌*◌, ◌≤◌, ltb, eqb, ℤ, pos, negsuc, ◌+ℤ◌, Float, length, Option, Some}
 use Rattle.std.specs.Int.Signed.{lt_z, le_z}
-use Rattle.numbers.specs.Said.{refused, refusal_in, outcome_says}
-use Rattle.gain_map.specs.VolumeUpdate.{update_says, volume_update_of}
+use Rattle.numbers.specs.Said.{refused, refusal_in, said}
+use Rattle.gain_map.specs.VolumeUpdate.{volume_update_of}
 use Rattle.clipping_predictor_level_buffer.specs.declared.level.Level.{Level}
-use Rattle.clipping_predictor_level_buffer.specs.Level.{measured_says, measure_of, measured_two_says, measure_two_of}
+use Rattle.clipping_predictor_level_buffer.specs.Level.{measure_of, measure_two_of}
 use Rattle.clipping_predictor_level_buffer.specs.Making as Ring
 use Rattle.clipping_predictor_level_buffer.specs.Pushing.{is_count, pushing_of, push_if}
-use Rattle.clipping_predictor_level_buffer.specs.Metrics.{metrics_says, compute_partial_metrics}
+use Rattle.clipping_predictor_level_buffer.specs.Metrics.{compute_partial_metrics}
 use Rattle.clipping_predictor.specs.declared.settings.ClippingPredictorConfig.{ClippingPredictorConfig}
 use Rattle.clipping_predictor.specs.Predictor.{Predictor, unmade_settings, empty_predictor, making_of, frame_fits, outcome_if, entered_if}
 use Rattle.clipping_predictor.specs.FrameLevels.{measuring_of}
-use Rattle.clipping_predictor.specs.EstimateCall.{arguments_of, estimate_says, estimate_of}
-use Rattle.mono_input_volume_controller.specs.declared.speech_level.SpeechLevel.{SpeechLevel}
-use Rattle.mono_input_volume_controller.specs.SpeechError.{speech_error_says, speech_error_of}
+use Rattle.clipping_predictor.specs.EstimateCall.{arguments_of, estimate_of}
+use Rattle.mono_input_volume_controller.specs.SpeechError.{speech_error_of}
 use Rattle.claims.specs.Causes.{Cause, first_of, outside, predictor_faults}
 
 -- "The bare volume step tests 2 (its minimum), 8, 10 (its maximum not 0 to 255, or the volume above it; a minimum above the maximum is let through)."
@@ -74,22 +72,22 @@ target_causes min max = record { number = 5; holds = outside (negsuc 89) (pos 30
 
 -- THE CLAIM
 pub record RefusedBelow : Type 0 where
-  pub volume_step : (wanted volume min max : ℤ) → refusal_in (update_says (volume_update_of wanted volume min max)) ≡ first_of (volume_step_causes volume min max)
-  pub predictor_making : (channels : ℤ) (config : ClippingPredictorConfig) → refusal_in (outcome_says (making_of channels config).answer) ≡ first_of (predictor_causes channels config)
+  pub volume_step : (wanted volume min max : ℤ) → refusal_in (said (volume_update_of wanted volume min max)) ≡ first_of (volume_step_causes volume min max)
+  pub predictor_making : (channels : ℤ) (config : ClippingPredictorConfig) → refusal_in (said (making_of channels config).answer) ≡ first_of (predictor_causes channels config)
   -- "On 1 to 7 nothing is made", nor on 14 and 15: beside a refusal there always stands the same predictor, of one channel and off
-  pub predictor_unmade : (channels : ℤ) (config : ClippingPredictorConfig) (number : ℕ) → outcome_says (making_of channels config).answer ≡ refused number
+  pub predictor_unmade : (channels : ℤ) (config : ClippingPredictorConfig) (number : ℕ) → said (making_of channels config).answer ≡ refused number
       → (making_of channels config).predictor ≡ empty_predictor unmade_settings 1
-  pub predictor_frame : (channels samples : ℕ) (lent : List Float) → refusal_in (outcome_says (outcome_if (frame_fits channels samples lent))) ≡ first_of (predictor_frame_causes channels samples lent)
-  pub unchanged : (p : Predictor) (channels samples : ℕ) (lent : List Float) (number : ℕ) → refusal_in (outcome_says (outcome_if (frame_fits channels samples lent))) ≡ some number
+  pub predictor_frame : (channels samples : ℕ) (lent : List Float) → refusal_in (said (outcome_if (frame_fits channels samples lent))) ≡ first_of (predictor_frame_causes channels samples lent)
+  pub unchanged : (p : Predictor) (channels samples : ℕ) (lent : List Float) (number : ℕ) → refusal_in (said (outcome_if (frame_fits channels samples lent))) ≡ Some number
       → entered_if (frame_fits channels samples lent) samples lent p ≡ p
   pub estimate : (p : Predictor) (channels : ℕ) (channel level step min max : ℤ) → 1 ≤ channels
-      → refusal_in (estimate_says (estimate_of p (arguments_of channels channel level step min max))) ≡ first_of (estimate_causes channels channel level step min max)
-  pub level : (samples : List Float) → refusal_in (measured_says (measure_of samples)) ≡ first_of (level_causes samples)
-  pub two_levels : (first second : List Float) → refusal_in (measured_two_says (measure_two_of first second)) ≡ first_of (two_levels_causes first second)
-  pub frame_levels : (channels samples : ℕ) (lent : List Float) → refusal_in (outcome_says (measuring_of channels samples lent)) ≡ first_of (frame_levels_causes channels samples lent)
-  pub ring_making : (capacity : ℤ) → refusal_in (outcome_says (Ring.making_of (Ring.capacity_of capacity))) ≡ first_of (ring_causes capacity)
-  pub push : (clipped : ℤ) → refusal_in (outcome_says (pushing_of clipped)) ≡ first_of (push_causes clipped)
+      → refusal_in (said (estimate_of p (arguments_of channels channel level step min max))) ≡ first_of (estimate_causes channels channel level step min max)
+  pub level : (samples : List Float) → refusal_in (said (measure_of samples)) ≡ first_of (level_causes samples)
+  pub two_levels : (first second : List Float) → refusal_in (said (measure_two_of first second)) ≡ first_of (two_levels_causes first second)
+  pub frame_levels : (channels samples : ℕ) (lent : List Float) → refusal_in (said (measuring_of channels samples lent)) ≡ first_of (frame_levels_causes channels samples lent)
+  pub ring_making : (capacity : ℤ) → refusal_in (said (Ring.making_of (Ring.capacity_of capacity))) ≡ first_of (ring_causes capacity)
+  pub push : (clipped : ℤ) → refusal_in (said (pushing_of clipped)) ≡ first_of (push_causes clipped)
   -- a refused push stores nothing
-  pub unpushed : (clipped : ℤ) (capacity : ℕ) (level : Level) (stored : List Level) (number : ℕ) → refusal_in (outcome_says (pushing_of clipped)) ≡ some number → push_if (is_count clipped) capacity level stored ≡ stored
-  pub metrics : (capacity : ℕ) (stored : List Level) (delay items : ℤ) → refusal_in (metrics_says (compute_partial_metrics capacity stored delay items)) ≡ first_of (metrics_causes capacity delay items)
-  pub speech_error : (level : SpeechLevel) (min max : ℤ) → refusal_in (speech_error_says (speech_error_of level min max)) ≡ first_of (target_causes min max)
+  pub unpushed : (clipped : ℤ) (capacity : ℕ) (level : Level) (stored : List Level) (number : ℕ) → refusal_in (said (pushing_of clipped)) ≡ Some number → push_if (is_count clipped) capacity level stored ≡ stored
+  pub metrics : (capacity : ℕ) (stored : List Level) (delay items : ℤ) → refusal_in (said (compute_partial_metrics capacity stored delay items)) ≡ first_of (metrics_causes capacity delay items)
+  pub speech_error : (level : Option Float) (min max : ℤ) → refusal_in (said (speech_error_of level min max)) ≡ first_of (target_causes min max)

@@ -2,10 +2,9 @@
 -- one statement covers both pairs of limits. It refuses with 18 a frame through the spotter's entry with more channels or samples per channel than its own limits, after all refusals of the larger entry, and otherwise
 -- answers as that entry does." Here of every frame from any state, and of the code, by the contracts of `InputVolumeController::{analyze_input_audio_each, spotter_analyze_input_audio_each}`; with one volume for all
 -- channels an entry is that with equal ones (`AnalyzedOf`), and the static library's say the reply and the state of the same `step` (agc2/specs/Calls.antt). Definitions only.
-use Rattle.std.specs.Prelude.{◌≡◌, Bool, true, false, not, ◌&&◌, List, ℕ, ◌≤◌, ℤ, Float, length}
+use Rattle.std.specs.Prelude.{◌≡◌, Bool, true, false, not, ◌&&◌, List, ℕ, ◌≤◌, ℤ, Float, length, Err}
 use Rattle.numbers.specs.declared.refusal.Refusal.TheVariants.{FrameLimits}
 use Rattle.input_volume_controller.specs.declared.limits.Limits.{Limits}
-use Rattle.input_volume_controller.specs.declared.Analysis.TheVariants.{Refused}
 use Rattle.input_volume_controller.specs.declared.Analyzed.{Analyzed}
 use Rattle.input_volume_controller.specs.declared.InputVolumeController.{InputVolumeController}
 use Rattle.input_volume_controller.specs.Limits.{plain_limits, spotter_limits}
@@ -38,7 +37,7 @@ narrowed most samples c wide = narrowed_if (is_too_much most (length c.control.c
 
 -- the same of what the two functions hand back; what is left free in it is heard in no later answer (`FreeIsUnheard`)
 abbrev pub NarrowedTo : Bool → InputVolumeController → Analyzed → Analyzed → Type 0
-NarrowedTo true self wide r = (r.answer ≡ Refused FrameLimits) × (r.controller ≡ self)
+NarrowedTo true self wide r = (r.answer ≡ Err FrameLimits) × (r.controller ≡ self)
 NarrowedTo false self wide r = (r.answer ≡ wide.answer) × (view_of r.controller ≡ view_of wide.controller)
 
 -- THE CLAIM

@@ -1,17 +1,14 @@
 -- The starred cases of document 01, "At each edge", as one table, and what each says of the definitions. No other case of that section is a theorem: a program runs and checks those.
 -- They reach the code by the contracts of the functions that compute these definitions: `compute_volume_update`, `get_speech_level_rms_error_db`, `compute_clipped_ratio`, `estimate_for` and
 -- `is_users`. Definitions only.
-use Rattle.std.specs.Prelude.{◌≡◌, Bool, true, false, List, [], ◌∷◌, ℕ, ◌+◌, ℤ, pos, negsuc, Float}
+use Rattle.std.specs.Prelude.{◌≡◌, Bool, true, false, List, [], ◌∷◌, ℕ, ◌+◌, ℤ, pos, negsuc, Float, Ok, Some}
 use Rattle.std.specs.Float.{binary32}
 use Rattle.std.specs.Float.Ieee.{lt, of_bits}
 use Rattle.levels.specs.declared.decibels.Decibels.TheVariants.{Finite}
-use Rattle.gain_map.specs.declared.VolumeUpdate.TheVariants.{Volume}
 use Rattle.gain_map.specs.VolumeUpdate.{volume_update_of}
 use Rattle.clipping_predictor.specs.declared.modes.Asked.{Asked}
 use Rattle.clipping_predictor.specs.Tree.{reached}
 use Rattle.clipping_predictor.specs.Estimate.{adaptive_tree}
-use Rattle.mono_input_volume_controller.specs.declared.speech_level.SpeechLevel.TheVariants.{Dbfs}
-use Rattle.mono_input_volume_controller.specs.declared.speech_level.RmsError.TheVariants.{Db}
 use Rattle.mono_input_volume_controller.specs.SpeechLevel.{rms_error_of}
 use Rattle.clipping_predictor.specs.MostClipped.{most_clipped}
 use Rattle.input_volume_controller.specs.ClippedRatio.{clipped_ratio_of}
@@ -64,9 +61,9 @@ question = record { level = 200; step = 15; least = 70; most = 255 }
 
 abbrev pub Holds : Case → Type 0
 -- "Volume step (minimum 20, maximum 255)"
-Holds (volume_step volume by to) = volume_update_of by (pos volume) (pos 20) (pos 255) ≡ Volume (pos to)
+Holds (volume_step volume by to) = volume_update_of by (pos volume) (pos 20) (pos 255) ≡ Ok (pos to)
 -- "Speech error (-50, -30)"
-Holds (speech_error bits error) = rms_error_of (Dbfs (of_bits binary32 bits)) (negsuc 49) (negsuc 29) ≡ Db error
+Holds (speech_error bits error) = rms_error_of (Some (of_bits binary32 bits)) (negsuc 49) (negsuc 29) ≡ Some error
 -- for every frame, of any count of channels
 Holds (clipped n above) = (channels : ℕ) (frame : List Float) → most_clipped channels 480 frame ≡ n → lt tenth (clipped_ratio_of channels 480 frame) ≡ above
 Holds (adaptive projected drop) = reached (adaptive_tree question (Finite projected)) ≡ drop

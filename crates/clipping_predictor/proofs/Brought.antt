@@ -1,5 +1,5 @@
 -- What a frame brings to a predictor: levels whose counts are in range, or nothing. Assumes nothing.
-use mathlib.Core.Path.{◌≡◌, sym, subst}
+use mathlib.Core.Path.{◌≡◌, sym, ap, subst, ◌∙◌}
 use mathlib.Core.Bool.{Bool, true, false, ◌&&◌}
 use mathlib.Core.List.{List}
 use Prim.Native.Nat.{ℕ, zero, suc, ◌≤◌}
@@ -7,18 +7,17 @@ use native.Mathlib.Omega.{arith}
 use lib.Dec.{ltb}
 use lib.Ieee.{Float}
 use lib.ListN.{replicate}
+use Rattle.std.specs.Prelude.{Some, None, Option}
+use Rattle.clipping_predictor.specs.declared.modes.Asked.{Asked}
 use Rattle.numbers.specs.Listed.{listed}
-use Rattle.numbers.proofs.Signs.{clash}
 use Rattle.clipping_predictor_level_buffer.specs.declared.level.Level.{Level}
 use Rattle.clipping_predictor_level_buffer.specs.Level.{max_samples_per_channel, frame_record}
 use Rattle.clipping_predictor_level_buffer.specs.Ring.{Counted}
 use Rattle.clipping_predictor_level_buffer.proofs.Counts.{counted_none, counted_more}
-use Rattle.clipping_predictor.specs.declared.modes.Question.{Question}
 use Rattle.clipping_predictor.specs.declared.measuring.Levels.{Levels}
-use Rattle.clipping_predictor.specs.declared.measuring.Brought.{Brought}
 use Rattle.clipping_predictor.specs.Predictor.{max_channels, part_of, frame_fits}
 use Rattle.clipping_predictor.specs.FrameLevels.{silence, level_if, levels_array}
-use Rattle.clipping_predictor.specs.AllRings.{clipped_for, clipped_if, unheard_with, BroughtBy}
+use Rattle.clipping_predictor.specs.AllRings.{clipped_for, clipped_if, heard_if, BroughtBy}
 use Rattle.clipping_predictor.proofs.MostClipped.{part_few}
 
 -- ---- counts in range
@@ -43,17 +42,19 @@ array_counted channels samples frame h = counted_listed (λ c. level_if (ltb c c
 
 -- ---- what is brought
 
-module _ (channels samples : ℕ) (frame : List Float) (question : Question) (on : Bool) where
-  pub brings_nothing : (n : ℕ) (r : Brought) → (on && frame_fits channels samples frame) ≡ false → n ≡ clipped_if (frame_fits channels samples frame) (clipped_for question channels samples frame)
-      → r ≡ unheard_with n → BroughtBy on channels samples frame question r
-  brings_nothing n r h e f =
-      subst (BroughtBy on channels samples frame question) (sym f) (record { hears_is = sym h; levels_are = λ t. clash (sym t); counted = silences_counted max_channels; clipped_is = e })
+module _ (channels samples : ℕ) (frame : List Float) (question : Option Asked) (on : Bool) where
+  pub brings_nothing : (n : ℕ) → (on && frame_fits channels samples frame) ≡ false → n ≡ clipped_if (frame_fits channels samples frame) (clipped_for question channels samples frame)
+      → BroughtBy on channels samples frame question (record { levels = None; clipped = n })
+  brings_nothing n h e = record {
+    levels_are = ap (λ (b : Bool). heard_if b (levels_array channels samples frame)) (sym h);
+    counted = silences_counted max_channels;
+    clipped_is = e;
+  }
 
   pub brings_levels : (n : ℕ) (levels : Levels) → (on && frame_fits channels samples frame) ≡ true → samples ≤ max_samples_per_channel → levels.items ≡ levels_array channels samples frame
-      → n ≡ clipped_if (frame_fits channels samples frame) (clipped_for question channels samples frame) → BroughtBy on channels samples frame question (record { levels = levels; hears = true; clipped = n })
+      → n ≡ clipped_if (frame_fits channels samples frame) (clipped_for question channels samples frame) → BroughtBy on channels samples frame question (record { levels = Some levels; clipped = n })
   brings_levels n levels h few are e = record {
-    hears_is = sym h;
-    levels_are = λ _. are;
+    levels_are = ap (λ (l : List Level). Some (record { items = l })) are ∙ ap (λ (b : Bool). heard_if b (levels_array channels samples frame)) (sym h);
     counted = subst Counted (sym are) (array_counted channels samples frame few);
     clipped_is = e;
   }

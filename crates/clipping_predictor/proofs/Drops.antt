@@ -9,12 +9,12 @@ use native.Mathlib.Decide.{dec_le}
 use lib.Dec.{leb}
 use borrow.Author.Tests.{leb-false}
 use lib.IntN.{pos, neg_ℤ}
+use Rattle.std.specs.Prelude.{Err, None, Ok, Option, Result, Some}
+use Rattle.numbers.specs.declared.refusal.Refusal.{Refusal}
 use Rattle.levels.specs.declared.decibels.Decibels.{Decibels}
 use Rattle.levels.specs.declared.decibels.Decibels.TheVariants.{Finite, PlusInfinity, MinusInfinity, NotANumber}
 use Rattle.gain_map.specs.VolumeUpdate.{walk}
 use Rattle.clipping_predictor_level_buffer.specs.declared.level.Level.{Level}
-use Rattle.clipping_predictor_level_buffer.specs.declared.Metrics.{Metrics}
-use Rattle.clipping_predictor_level_buffer.specs.declared.Metrics.TheVariants.{Found, Missing, Refused}
 use Rattle.clipping_predictor_level_buffer.specs.Metrics.{partial_metrics}
 use Rattle.clipping_predictor.specs.declared.settings.ClippingPredictorMode.{ClippingPredictorMode}
 use Rattle.clipping_predictor.specs.declared.settings.ClippingPredictorMode.TheVariants.{ClippingEventPrediction, AdaptiveStepClippingPeakPrediction, FixedStepClippingPeakPrediction}
@@ -63,13 +63,13 @@ by_mode ClippingEventPrediction s window reference a = after_test a _ _ (leaf 0)
 by_mode AdaptiveStepClippingPeakPrediction s window reference a = after_test a _ _ (leaf 0) _ (none a) (after_test a _ _ _ (leaf 0) (by_above true a (projected_peak window reference)) (none a))
 by_mode FixedStepClippingPeakPrediction s window reference a = after_test a _ _ (leaf 0) _ (none a) (after_test a _ _ _ (leaf 0) (by_above false a (projected_peak window reference)) (none a))
 
-by_windows : (s : Settings) (a : Asked) (m r : Metrics) → Stepped a (reached (windows_tree s a m r))
+by_windows : (s : Settings) (a : Asked) (m r : Result (Option Level) Refusal) → Stepped a (reached (windows_tree s a m r))
 unfolding windows_tree
-by_windows s a (Found window) (Found reference) = by_mode s.mode s window reference a
-by_windows s a (Found window) Missing = none a
-by_windows s a (Found window) (Refused cause) = none a
-by_windows s a Missing r = none a
-by_windows s a (Refused cause) r = none a
+by_windows s a (Ok (Some window)) (Ok (Some reference)) = by_mode s.mode s window reference a
+by_windows s a (Ok (Some window)) (Ok None) = none a
+by_windows s a (Ok (Some window)) (Err cause) = none a
+by_windows s a (Ok None) r = none a
+by_windows s a (Err cause) r = none a
 
 -- ---- what a drop does
 

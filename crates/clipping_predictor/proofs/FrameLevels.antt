@@ -2,75 +2,52 @@
 use mathlib.Core.Path.{◌≡◌, sym, ap, subst, ◌∙◌}
 use mathlib.Core.Bool.{Bool, true}
 use mathlib.Core.List.{List}
-use Prim.Native.Nat.{ℕ, ◌+◌, ◌*◌, ◌-◌, ◌≤◌, ◌<◌}
+use Prim.Native.Nat.{ℕ, ◌+◌, ◌*◌, ◌≤◌, ◌<◌}
 use native.Mathlib.Omega.{arith}
 use native.Mathlib.Decide.{dec_lt}
-use native.Mathlib.Nat.{add-mul, one-mul}
 use lib.Dec.{ltb}
 use lib.Ieee.{Float}
-use lib.ListN.{length, take, drop, get_or, get_or-replicate, length-replicate}
-use borrow.Author.Tests.{le-leb, lt-leb, eq-eqb, lt-ltb, le-ltb}
+use lib.ListN.{length, get_or, get_or-replicate, length-replicate, length-take, length-drop}
+use borrow.Author.Tests.{le-leb, eq-eqb, lt-ltb, le-ltb}
+use Rattle.std.specs.Prelude.{Result, Ok}
 use Rattle.numbers.proofs.Listed.{get_d_listed, listed_of}
 use Rattle.numbers.proofs.Arrays.{Replaced}
-use Rattle.numbers.specs.declared.refusal.Outcome.{Outcome}
-use Rattle.numbers.specs.declared.refusal.Outcome.TheVariants.{Refused}
 use Rattle.numbers.specs.declared.refusal.Refusal.{Refusal}
-use Rattle.numbers.specs.declared.refusal.Refusal.TheVariants.{ChannelCount}
+use Rattle.numbers.specs.Said.{said}
+use Rattle.numbers.proofs.Said.{said_fixed}
 use Rattle.clipping_predictor_level_buffer.specs.declared.level.Level.{Level}
-use Rattle.clipping_predictor_level_buffer.specs.declared.level.Measured.{Measured}
-use Rattle.clipping_predictor_level_buffer.specs.declared.level.TwoLevels.{TwoLevels}
-use Rattle.clipping_predictor_level_buffer.specs.declared.level.MeasuredTwo.{MeasuredTwo}
 use Rattle.clipping_predictor_level_buffer.specs.Level.{max_samples_per_channel, frame_record, measure_of, two_records, measure_two_of}
 use Rattle.clipping_predictor_level_buffer.specs.Ring.{no_level}
 use Rattle.clipping_predictor.specs.declared.ClippingPredictor.{ClippingPredictor}
-use Rattle.clipping_predictor.specs.declared.measuring.MeasuredChannels.{MeasuredChannels}
+use Rattle.clipping_predictor.specs.declared.measuring.Levels.{Levels}
 use Rattle.clipping_predictor.specs.Predictor.{max_channels, view_of, Good, part_of, frame_fits, levels_in, with_levels, entered_if}
-use Rattle.clipping_predictor.specs.FrameLevels.{silence, silent, level_if, levels_array, MeasuredAs, measuring_if, beside_if, measuring_of, MeasuredOf}
-use Rattle.clipping_predictor.proofs.Frames.{entered_frame}
+use Rattle.clipping_predictor.specs.FrameLevels.{silence, silent, level_if, levels_array, MeasuredAs, measuring_of, MeasuredOf}
+use Rattle.clipping_predictor.proofs.Frames.{fits, part_ends, entered_frame}
 
 -- ---- one channel and two
 
-module _ (samples : List Float) (h : 1 ≤ length samples) (k : length samples ≤ max_samples_per_channel) where
-  measured : measure_of samples ≡ Measured.Level (frame_record samples)
-  unfolding measure_of
-  measured = rw (le-leb 1 (length samples) h, le-leb (length samples) max_samples_per_channel k)
+pub same_Ok : {A E : Type 0} (x y : A) → ◌≡◌ {A = Result A E} (Ok x) (Ok y) → x ≡ y
+same_Ok x y e = cc
 
-  pub is_level : (l : Level) → measure_of samples ≡ Measured.Level l → l ≡ frame_record samples
-  is_level l e = let m = measured in cc
+-- a channel that is measured, as a call of `measure` says it, has its record
+pub is_measured : (samples : List Float) (r : Result Level Refusal) → 1 ≤ length samples → length samples ≤ max_samples_per_channel → said r ≡ said (measure_of samples)
+    → r ≡ Ok (frame_record samples)
+unfolding measure_of
+is_measured samples r h k e = said_fixed r (measure_of samples) e ∙ rw (le-leb 1 (length samples) h, le-leb (length samples) max_samples_per_channel k)
 
-  pub not_refused : (cause : Refusal) → measure_of samples ≡ Measured.Refused cause → ⊥
-  not_refused cause e = let m = measured in let z : ◌≡◌ {A = ℕ} 0 1 = cc in omega arith
-
-  module _ (second : List Float) (same : length second ≡ length samples) where
-    measured_two : measure_two_of samples second ≡ MeasuredTwo.Levels (two_records samples second)
-    unfolding measure_two_of
-    measured_two = rw (le-leb 1 (length samples) h, le-leb (length samples) max_samples_per_channel k, eq-eqb (length samples) (length second) (sym same))
-
-    pub are_levels : (two : TwoLevels) → measure_two_of samples second ≡ MeasuredTwo.Levels two → two ≡ two_records samples second
-    are_levels two e = let m = measured_two in cc
-
-    pub neither_refused : (cause : Refusal) → measure_two_of samples second ≡ MeasuredTwo.Refused cause → ⊥
-    neither_refused cause e = let m = measured_two in let z : ◌≡◌ {A = ℕ} 0 1 = cc in omega arith
+-- and so have two
+pub are_measured : (first second : List Float) (r : Result (Level × Level) Refusal) → 1 ≤ length first → length first ≤ max_samples_per_channel → length second ≡ length first
+    → said r ≡ said (measure_two_of first second) → r ≡ Ok (two_records first second)
+unfolding measure_two_of
+are_measured first second r h k same e =
+    said_fixed r (measure_two_of first second) e ∙ rw (le-leb 1 (length first) h, le-leb (length first) max_samples_per_channel k, eq-eqb (length first) (length second) (sym same))
 
 -- ---- what a frame is answered
 
 module _ (channels samples : ℕ) (frame : List Float) where
-  -- levels beside an answer that the tests come to
-  pub measured_as : (answer : Outcome) (r : MeasuredChannels) → measuring_of channels samples frame ≡ answer → MeasuredAs answer (beside_if answer (levels_array channels samples frame)) r → MeasuredOf channels samples frame r
-  measured_as answer r e m = subst (λ (o : Outcome). MeasuredAs o (beside_if o (levels_array channels samples frame)) r) (sym e) m
-
-  pub no_channel : channels < 1 → measuring_of channels samples frame ≡ Refused ChannelCount
-  unfolding measuring_of
-  no_channel h = rw (lt-leb 1 channels h)
-
-  module _ (h : 1 ≤ channels) where
-    pub too_many : max_channels < channels → measuring_of channels samples frame ≡ Refused ChannelCount
-    unfolding measuring_of
-    too_many k = rw (le-leb 1 channels h, lt-leb channels max_channels k)
-
-    pub tested : (fits : Bool) → channels ≤ max_channels → frame_fits channels samples frame ≡ fits → measuring_of channels samples frame ≡ measuring_if true fits
-    unfolding measuring_of
-    tested fits k e = rw (le-leb 1 channels h, le-leb channels max_channels k, e)
+  -- the answer that the tests come to
+  pub measured_as : (answer : Result (Unit {0}) Refusal) (r : Result Levels Refusal) → measuring_of channels samples frame ≡ answer → MeasuredAs answer (levels_array channels samples frame) r → MeasuredOf channels samples frame r
+  measured_as answer r e m = subst (λ (o : Result (Unit {0}) Refusal). MeasuredAs o (levels_array channels samples frame) r) (sym e) m
 
 -- ---- the array
 
@@ -105,15 +82,17 @@ pub array_entered : (p : ClippingPredictor) (samples : ℕ) (frame : List Float)
 array_entered p samples frame good =
     entered_frame p (λ c. get_or (levels_array p.channels samples frame) c no_level) samples frame (λ c h. array_at p.channels samples frame c good.channels_high h)
 
--- the levels beside the answer to a frame that fits are that array
-pub fitting_levels : (p : ClippingPredictor) (samples : ℕ) (frame : List Float) (r : MeasuredChannels) → Good p → frame_fits p.channels samples frame ≡ true → MeasuredOf p.channels samples frame r → r.levels.items ≡ levels_array p.channels samples frame
-fitting_levels p samples frame r good fits m =
-    m.levels_are ∙ ap (λ (o : Outcome). beside_if o (levels_array p.channels samples frame)) (tested p.channels samples frame good.channels_low true good.channels_high fits)
+-- ---- a channel's part of a frame that fits
 
--- ---- the parts as the loop has them
+pub record Part (channel samples : ℕ) (frame : List Float) : Type 0 where
+  pub least : 1 ≤ samples
+  pub most : samples ≤ max_samples_per_channel
+  pub within : channel * samples + samples ≤ length frame
+  pub short : length frame ≤ 3840
+  pub long : length (part_of samples frame channel) ≡ samples
 
-pub next_start : (c samples : ℕ) → c * samples + samples ≡ (c + 1) * samples
-next_start c samples = sym (add-mul c 1 samples ∙ ap (λ (n : ℕ). c * samples + n) (one-mul samples))
-
-pub part_is : (c samples start : ℕ) (frame : List Float) → start ≡ c * samples → frame_record (take (start + samples - start) (drop start frame)) ≡ frame_record (part_of samples frame c)
-part_is c samples start frame p = let q : start + samples - start ≡ samples = omega arith in λ i. frame_record (take (q i) (drop (p i) frame))
+pub a_part : (channels samples : ℕ) (frame : List Float) (channel : ℕ) → channel < channels → channels ≤ max_channels → frame_fits channels samples frame ≡ true → Part channel samples frame
+a_part channels samples frame channel h k e =
+    let f = fits channels samples frame e in
+    let n = part_ends channels samples channel h k f.most in
+    record { least = f.least; most = f.most; within = omega (arith, n.within, f.all); short = omega (arith, n.short, f.all); long = simp (length-take, length-drop) (omega (arith, n.within, f.all)) }

@@ -15,7 +15,7 @@ use Rattle.numbers.proofs.Arrays.{Replaced}
 use Rattle.numbers.proofs.Signs.{clash}
 use Rattle.clipping_predictor_level_buffer.specs.declared.level.Level.{Level}
 use Rattle.clipping_predictor_level_buffer.specs.declared.ClippingPredictorLevelBuffer.{ClippingPredictorLevelBuffer}
-use Rattle.clipping_predictor_level_buffer.specs.Level.{max_samples_per_channel, frame_record}
+use Rattle.clipping_predictor_level_buffer.specs.Level.{max_samples_per_channel, is_frame_size, frame_record}
 use Rattle.clipping_predictor_level_buffer.specs.Ring.{no_level, stored, push, Pushed, Emptied}
 use Rattle.clipping_predictor.specs.declared.settings.Settings.{Settings}
 use Rattle.clipping_predictor.specs.declared.ClippingPredictor.{ClippingPredictor}
@@ -30,6 +30,15 @@ pub record Fits (channels samples : ℕ) (frame : List Float) : Type 0 where
   pub least : 1 ≤ samples
   pub most : samples ≤ max_samples_per_channel
   pub all : length frame ≡ channels * samples
+
+and_assoc : (a b c : Bool) → ((a && b) && c) ≡ (a && (b && c))
+and_assoc true b c = refl
+and_assoc false b c = refl
+
+-- a channel's samples may be so many, and the frame has as many for each channel
+pub fits_split : (channels samples : ℕ) (frame : List Float) → frame_fits channels samples frame ≡ (is_frame_size samples && eqb (length frame) (channels * samples))
+unfolding frame_fits
+fits_split channels samples frame = sym (and_assoc (leb 1 samples) (leb samples max_samples_per_channel) (eqb (length frame) (channels * samples)))
 
 fits' : (channels samples : ℕ) (frame : List Float) (a b c : Bool) → leb 1 samples ≡ a → leb samples max_samples_per_channel ≡ b → eqb (length frame) (channels * samples) ≡ c → (a && (b && c)) ≡ true → Fits channels samples frame
 fits' channels samples frame true true true p q r e = record { least = leb-true 1 samples p; most = leb-true samples max_samples_per_channel q; all = eqb-true (length frame) (channels * samples) r }

@@ -5,13 +5,12 @@ use mathlib.Core.List.{List, [], ◌∷◌, map, map-map, foldl}
 use Prim.Native.Nat.{ℕ, ◌+◌, ◌≤◌, ◌<◌}
 use lib.ListN.{length, take, get_or}
 use lib.Seq.{take_all}
+use Rattle.std.specs.Prelude.{None, Option, Some}
 use Rattle.clipping_predictor_level_buffer.specs.declared.level.Level.{Level}
 use Rattle.clipping_predictor_level_buffer.proofs.Folds.{folded_more}
 use Rattle.clipping_predictor.specs.declared.settings.Settings.{Settings}
 use Rattle.clipping_predictor.specs.declared.modes.Asked.{Asked}
 use Rattle.clipping_predictor.specs.declared.modes.Estimated.{Estimated}
-use Rattle.clipping_predictor.specs.declared.modes.Question.{Question}
-use Rattle.clipping_predictor.specs.declared.modes.Question.TheVariants.{Nothing, Step}
 use Rattle.clipping_predictor.specs.Turned.{estimated}
 use Rattle.clipping_predictor.specs.Estimate.{estimate_tree}
 use Rattle.clipping_predictor.specs.Settings as Settings
@@ -26,7 +25,7 @@ none_joined f [] h = refl
 none_joined f (r ∷ rings) h = ap (λ (e : Estimated). foldl joined (joined no_estimate e) (map f rings)) (h r) ∙ none_joined f rings h
 
 -- those of the rings before c
-module _ (question : Question) (s : Settings) (rings : List (List Level)) where
+module _ (question : Option Asked) (s : Settings) (rings : List (List Level)) where
   unfoldable pub predicted_before : ℕ → Estimated
   predicted_before c = foldl joined no_estimate (map (estimated_for question s) (take c rings))
 
@@ -39,16 +38,16 @@ module _ (question : Question) (s : Settings) (rings : List (List Level)) where
   one_more c h = folded_more joined (estimated_for question s) [] no_estimate rings c h
 
 -- those of all rings
-pub all : (question : Question) (p : Predictor) (c : ℕ) → length p.rings ≤ c → predicted_before question p.settings p.rings c ≡ predicted_for question p
+pub all : (question : Option Asked) (p : Predictor) (c : ℕ) → length p.rings ≤ c → predicted_before question p.settings p.rings c ≡ predicted_for question p
 unfolding predicted_before predicted_by
-all Nothing p c h = none_joined (estimated_for Nothing p.settings) (take c p.rings) (λ records. refl)
-all (Step a) p c h = ap (λ (l : List (List Level)). foldl joined no_estimate (map (estimated_for (Step a) p.settings) l)) (take_all c p.rings h)
+all None p c h = none_joined (estimated_for None p.settings) (take c p.rings) (λ records. refl)
+all (Some a) p c h = ap (λ (l : List (List Level)). foldl joined no_estimate (map (estimated_for (Some a) p.settings) l)) (take_all c p.rings h)
 
 -- a predictor that is off answers nothing
-pub off_none : (question : Question) (p : Predictor) → Settings.Good p.settings → p.settings.enabled ≡ false → no_estimate ≡ predicted_for question p
+pub off_none : (question : Option Asked) (p : Predictor) → Settings.Good p.settings → p.settings.enabled ≡ false → no_estimate ≡ predicted_for question p
 unfolding predicted_by
-off_none Nothing p good e = refl
-off_none (Step a) p good e = sym (none_joined (λ (records : List Level). estimated (estimate_tree p.settings records a)) p.rings (λ records. ap estimated (off p.settings records a e good.window_low)))
+off_none None p good e = refl
+off_none (Some a) p good e = sym (none_joined (λ (records : List Level). estimated (estimate_tree p.settings records a)) p.rings (λ records. ap estimated (off p.settings records a e good.window_low)))
 
 -- and neither does one whose rings are empty
 pub none_from_empty : (a : Asked) (p : Predictor) → emptied p ≡ p → predicted_by a p ≡ no_estimate

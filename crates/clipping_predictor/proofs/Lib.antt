@@ -13,4 +13,3 @@ pub mod Rings
 pub mod Drops
 pub mod Ceilings
 pub mod Newest
-pub mod Says

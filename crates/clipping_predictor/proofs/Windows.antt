@@ -7,10 +7,10 @@ use native.Mathlib.Omega.{arith}
 use lib.Dec.{leb}
 use lib.ListN.{take, drop}
 use borrow.Author.Tests.{le-leb, lt-leb}
+use Rattle.std.specs.Prelude.{Err, None, Ok, Option, Result}
+use Rattle.numbers.specs.declared.refusal.Refusal.{Refusal}
 use Rattle.numbers.specs.declared.refusal.Refusal.TheVariants.{RingRange}
 use Rattle.clipping_predictor_level_buffer.specs.declared.level.Level.{Level}
-use Rattle.clipping_predictor_level_buffer.specs.declared.Metrics.{Metrics}
-use Rattle.clipping_predictor_level_buffer.specs.declared.Metrics.TheVariants.{Refused, Missing}
 use Rattle.clipping_predictor_level_buffer.specs.Metrics.{found_if, metrics_if, partial_metrics}
 use Rattle.clipping_predictor.specs.declared.settings.Settings.{Settings}
 use Rattle.clipping_predictor.specs.declared.modes.Asked.{Asked}
@@ -18,7 +18,7 @@ use Rattle.clipping_predictor.specs.Tree.{leaf}
 use Rattle.clipping_predictor.specs.Estimate.{capacity_if, capacity_of, windows_tree, unless_low, estimate_tree}
 
 -- a ring with no place has no metrics
-none_kept : (records : List Level) (delay n : ℕ) → 1 ≤ n → partial_metrics 0 records delay n ≡ Refused RingRange
+none_kept : (records : List Level) (delay n : ℕ) → 1 ≤ n → partial_metrics 0 records delay n ≡ Err RingRange
 unfolding partial_metrics
 none_kept records delay n h = rw (le-leb 1 n h, lt-leb (delay + n) 0 (omega arith))
 
@@ -26,19 +26,19 @@ low_leaf : (b : Bool) → unless_low b (leaf 0) ≡ leaf 0
 low_leaf true = refl
 low_leaf false = refl
 
-refused_windows : (s : Settings) (a : Asked) (m r : Metrics) → m ≡ Refused RingRange → windows_tree s a m r ≡ leaf 0
+refused_windows : (s : Settings) (a : Asked) (m r : Result (Option Level) Refusal) → m ≡ Err RingRange → windows_tree s a m r ≡ leaf 0
 unfolding windows_tree
-refused_windows s a m r e = ap (λ (k : Metrics). windows_tree s a k r) e
+refused_windows s a m r e = ap (λ (k : Result (Option Level) Refusal). windows_tree s a k r) e
 
 -- an empty ring has none either
-none_stored : (s : Settings) (a : Asked) (capacity n : ℕ) (r : Metrics) → windows_tree s a (partial_metrics capacity [] 0 n) r ≡ leaf 0
+none_stored : (s : Settings) (a : Asked) (capacity n : ℕ) (r : Result (Option Level) Refusal) → windows_tree s a (partial_metrics capacity [] 0 n) r ≡ leaf 0
 unfolding partial_metrics windows_tree
 none_stored s a capacity zero r = refl
 none_stored s a capacity (suc n) r =
     (λ i. windows_tree s a (metrics_if (leb 1 (suc n) && leb (0 + suc n) capacity) (found_if (lt-leb (0 + suc n) 0 (omega arith) i) (take (suc n) (drop 0 [])))) r)
     ∙ by_range (leb 1 (suc n) && leb (0 + suc n) capacity)
   where
-    by_range : (b : Bool) → windows_tree s a (metrics_if b Missing) r ≡ leaf 0
+    by_range : (b : Bool) → windows_tree s a (metrics_if b (Ok None)) r ≡ leaf 0
     by_range true = refl
     by_range false = refl
 

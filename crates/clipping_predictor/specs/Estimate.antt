@@ -1,15 +1,14 @@
 -- Document 01, "Ring and predictors": what an estimate is, from the metrics of the two windows. WebRTC's `ClippingEventPredictor` and `ClippingPeakPredictor`.
 -- M, A are the metrics over the window, Mr, Ar those over the reference. Definitions only.
-use Rattle.std.specs.Prelude.{◌≡◌, ℕ, ◌+◌, ◌-◌, ◌*◌, ◌/◌, min, max, Bool, true, false, ◌&&◌, List, leb, ltb, ℤ, pos, negsuc, neg_ℤ, ◌*ℤ◌}
+use Rattle.std.specs.Prelude.{◌≡◌, ℕ, ◌+◌, ◌-◌, ◌*◌, ◌/◌, min, max, Bool, true, false, ◌&&◌, List, leb, ltb, ℤ, pos, negsuc, neg_ℤ, ◌*ℤ◌, Err, None, Ok, Option, Result, Some}
 use Rattle.std.specs.Int.Signed.{le_z, quot_z}
+use Rattle.numbers.specs.declared.refusal.Refusal.{Refusal}
 use Rattle.levels.specs.declared.decibels.Decibels.{Decibels}
 use Rattle.levels.specs.declared.decibels.Decibels.TheVariants.{Finite, PlusInfinity, MinusInfinity, NotANumber}
 use Rattle.levels.specs.Decibels.{plus, minus, near, Bounded}
 use Rattle.levels.specs.Level.{d, h, dbfs, min_level_dbfs, level_limit}
 use Rattle.gain_map.specs.VolumeUpdate.{walk}
 use Rattle.clipping_predictor_level_buffer.specs.declared.level.Level.{Level}
-use Rattle.clipping_predictor_level_buffer.specs.declared.Metrics.{Metrics}
-use Rattle.clipping_predictor_level_buffer.specs.declared.Metrics.TheVariants.{Found, Missing, Refused}
 use Rattle.clipping_predictor_level_buffer.specs.Metrics.{partial_metrics}
 use Rattle.clipping_predictor.specs.declared.settings.ClippingPredictorMode.{ClippingPredictorMode}
 use Rattle.clipping_predictor.specs.declared.settings.ClippingPredictorMode.TheVariants.{ClippingEventPrediction, AdaptiveStepClippingPeakPrediction, FixedStepClippingPeakPrediction}
@@ -104,12 +103,12 @@ abbrev pub capacity_of : Settings → ℕ
 capacity_of s = capacity_if s.enabled (s.delay + s.reference)
 
 -- "missing metrics, of either window, give none before any comparison"
-unfoldable pub windows_tree : Settings → Asked → Metrics → Metrics → Tree ℕ
-windows_tree s a (Found window) (Found reference) = mode_tree s.mode s window reference a
-windows_tree s a (Found window) Missing = leaf 0
-windows_tree s a (Found window) (Refused cause) = leaf 0
-windows_tree s a Missing reference = leaf 0
-windows_tree s a (Refused cause) reference = leaf 0
+unfoldable pub windows_tree : Settings → Asked → Result (Option Level) Refusal → Result (Option Level) Refusal → Tree ℕ
+windows_tree s a (Ok (Some window)) (Ok (Some reference)) = mode_tree s.mode s window reference a
+windows_tree s a (Ok (Some window)) (Ok None) = leaf 0
+windows_tree s a (Ok (Some window)) (Err cause) = leaf 0
+windows_tree s a (Ok None) reference = leaf 0
+windows_tree s a (Err cause) reference = leaf 0
 
 -- "An estimate at level ≤ min is none"
 abbrev pub unless_low : Bool → Tree ℕ → Tree ℕ

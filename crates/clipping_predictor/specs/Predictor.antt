@@ -1,14 +1,10 @@
 -- Document 01, "Ring and predictors": a predictor as its settings and, for each channel, the list of its stored records, newest first; and its calls. Definitions only.
-use Rattle.std.specs.Prelude.{◌≡◌, ℕ, ◌*◌, ◌≤◌, ◌<◌, Bool, true, false, ◌&&◌, List, [], ◌∷◌, map, leb, eqb, ℤ, pos, Float, length, take, drop, get_or, replicate}
+use Rattle.std.specs.Prelude.{◌≡◌, ℕ, ◌*◌, ◌≤◌, ◌<◌, Bool, true, false, ◌&&◌, List, [], ◌∷◌, map, leb, eqb, ℤ, pos, Float, length, take, drop, get_or, replicate, Err, None, Ok, Option, Result, Some}
 use Rattle.numbers.specs.Listed.{listed}
-use Rattle.numbers.specs.declared.natural.Natural.{Natural}
-use Rattle.numbers.specs.declared.natural.Natural.TheVariants.{Number, Outside}
-use Rattle.numbers.specs.declared.refusal.Outcome.{Outcome}
-use Rattle.numbers.specs.declared.refusal.Outcome.TheVariants.{Accepted, Refused}
 use Rattle.numbers.specs.declared.refusal.Refusal.{Refusal}
 use Rattle.numbers.specs.declared.refusal.Refusal.TheVariants.{ChannelCount, FrameSize}
 use Rattle.numbers.specs.Natural.{within_of}
-use Rattle.numbers.specs.Said.{outcome_says}
+use Rattle.numbers.specs.Said.{said}
 use Rattle.clipping_predictor_level_buffer.specs.declared.level.Level.{Level}
 use Rattle.clipping_predictor_level_buffer.specs.declared.ClippingPredictorLevelBuffer.{ClippingPredictorLevelBuffer}
 use Rattle.clipping_predictor_level_buffer.specs.Level.{max_samples_per_channel, frame_record}
@@ -16,7 +12,6 @@ use Rattle.clipping_predictor_level_buffer.specs.Ring.{no_level, stored, push}
 use Rattle.clipping_predictor.specs.declared.settings.ClippingPredictorMode.TheVariants.{AdaptiveStepClippingPeakPrediction}
 use Rattle.clipping_predictor.specs.declared.settings.ClippingPredictorConfig.{ClippingPredictorConfig}
 use Rattle.clipping_predictor.specs.declared.settings.Settings.{Settings}
-use Rattle.clipping_predictor.specs.declared.settings.Checked.{Checked}
 use Rattle.clipping_predictor.specs.declared.ClippingPredictor.{ClippingPredictor}
 use Rattle.clipping_predictor.specs.declared.Created.{Created}
 use Rattle.clipping_predictor.specs.declared.making.Decided.{Decided}
@@ -63,23 +58,23 @@ abbrev pub empty_predictor : Settings → ℕ → Predictor
 empty_predictor s channels = record { settings = s; rings = replicate channels [] }
 
 pub record Making : Type 0 where
-  pub answer : Outcome
+  pub answer : Result (Unit {0}) Refusal
   pub predictor : Predictor
 
 abbrev pub unmade : Refusal → Making
-unmade cause = record { answer = Refused cause; predictor = empty_predictor unmade_settings 1 }
+unmade cause = record { answer = Err cause; predictor = empty_predictor unmade_settings 1 }
 
-unfoldable pub made_of : Natural → Checked → Making
-made_of Outside settings = unmade ChannelCount
-made_of (Number channels) (Checked.Refused cause) = unmade cause
-made_of (Number channels) (Checked.InOrder s) = record { answer = Accepted; predictor = empty_predictor s channels }
+unfoldable pub made_of : Option ℕ → Result Settings Refusal → Making
+made_of None settings = unmade ChannelCount
+made_of (Some channels) (Err cause) = unmade cause
+made_of (Some channels) (Ok s) = record { answer = Ok tt; predictor = empty_predictor s channels }
 
 unfoldable pub making_of : ℤ → ClippingPredictorConfig → Making
 making_of channels config = made_of (within_of 1 max_channels channels) (settings_of config)
 
 pub record CreatedOf (channels : ℤ) (config : ClippingPredictorConfig) (r : Created) : Type 0 where
   pub good : Good r.predictor
-  pub answer : outcome_says r.answer ≡ outcome_says (making_of channels config).answer
+  pub answer : said r.answer ≡ said (making_of channels config).answer
   pub view : view_of r.predictor ≡ (making_of channels config).predictor
 
 -- ---- what the private functions of the making say
@@ -117,9 +112,9 @@ push_each capacity (l ∷ levels) (r ∷ rings) = push capacity l r ∷ push_eac
 unfoldable pub frame_fits : ℕ → ℕ → List Float → Bool
 frame_fits channels samples frame = leb 1 samples && (leb samples max_samples_per_channel && eqb (length frame) (channels * samples))
 
-abbrev pub outcome_if : Bool → Outcome
-outcome_if true = Accepted
-outcome_if false = Refused FrameSize
+abbrev pub outcome_if : Bool → Result (Unit {0}) Refusal
+outcome_if true = Ok tt
+outcome_if false = Err FrameSize
 
 abbrev pub with_levels : List Level → Predictor → Predictor
 with_levels levels p = record { settings = p.settings; rings = push_each (capacity_of p.settings) levels p.rings }
@@ -139,7 +134,7 @@ pub record WithFrame (p : ClippingPredictor) (samples : ℕ) (frame : List Float
   pub same : frame_fits p.channels samples frame ≡ false → r ≡ p
 
 pub record AnalyzedOf (p : ClippingPredictor) (samples : ℕ) (frame : List Float) (r : Analyzed) : Type 0 where
-  pub answer : outcome_says r.answer ≡ outcome_says (outcome_if (frame_fits p.channels samples frame))
+  pub answer : said r.answer ≡ said (outcome_if (frame_fits p.channels samples frame))
   pub entered : WithFrame p samples frame r.predictor
 
 -- "Reset empties it."

@@ -1,18 +1,13 @@
 -- Document 01: "window and reference length at least 1, delay at least 0, delay + reference above window and at most 64, threshold and margin within -200,000 to 200,000 thousandths",
 -- with the numbers of document 02 (ii): 7, 14 and 15. Definitions only.
-use Rattle.std.specs.Prelude.{ℕ, ◌+◌, ◌≤◌, ◌<◌, Bool, true, false, ◌&&◌, leb, ltb, ℤ, nat_abs}
-use Rattle.numbers.specs.declared.natural.Natural.{Natural}
-use Rattle.numbers.specs.declared.natural.Natural.TheVariants.{Number, Outside}
+use Rattle.std.specs.Prelude.{ℕ, ◌+◌, ◌≤◌, ◌<◌, Bool, true, false, ◌&&◌, leb, ltb, ℤ, nat_abs, Err, None, Ok, Option, Result, Some}
+use Rattle.numbers.specs.declared.refusal.Refusal.{Refusal}
 use Rattle.numbers.specs.declared.refusal.Refusal.TheVariants.{PredictorWindows, PredictorCapacity, PredictorLevels}
 use Rattle.numbers.specs.Natural.{at_least_of}
-use Rattle.numbers.specs.Refusal.{number_of}
-use Rattle.numbers.specs.Said.{Said, accepted, refused}
 use Rattle.clipping_predictor_level_buffer.specs.Ring.{max_capacity}
 use Rattle.clipping_predictor.specs.declared.settings.ClippingPredictorMode.{ClippingPredictorMode}
 use Rattle.clipping_predictor.specs.declared.settings.ClippingPredictorConfig.{ClippingPredictorConfig}
 use Rattle.clipping_predictor.specs.declared.settings.Settings.{Settings}
-use Rattle.clipping_predictor.specs.declared.settings.Checked.{Checked}
-use Rattle.clipping_predictor.specs.declared.settings.Checked.TheVariants.{InOrder, Refused}
 
 -- the most that a threshold or a margin may be, either way
 abbrev pub max_level : ℕ
@@ -22,25 +17,20 @@ max_level = 200000
 unfoldable pub levels_in_range : ℤ → ℤ → Bool
 levels_in_range threshold margin = leb (nat_abs threshold) max_level && leb (nat_abs margin) max_level
 
--- document 01's number and values for each case of the answer
-abbrev pub checked_says : Checked → Said Settings
-checked_says (InOrder s) = accepted s
-checked_says (Refused cause) = refused (number_of cause)
-
 -- "It refuses with 14 if the windows' one fault is a sum of delay and reference above 64, and with 15 if the windows are in order but threshold or margin is out of range; 7 stays for every other
 -- window fault, and is tested before 14, which is tested before 15": whether the sum is above the window, whether a ring has room for it, and whether the levels are in range
-abbrev pub checked_if : Bool → Bool → Bool → Settings → Checked
-checked_if false room levels s = Refused PredictorWindows
-checked_if true false levels s = Refused PredictorCapacity
-checked_if true true false s = Refused PredictorLevels
-checked_if true true true s = InOrder s
+abbrev pub checked_if : Bool → Bool → Bool → Settings → Result Settings Refusal
+checked_if false room levels s = Err PredictorWindows
+checked_if true false levels s = Err PredictorCapacity
+checked_if true true false s = Err PredictorLevels
+checked_if true true true s = Ok s
 
 -- a window, a reference or a delay that is too small by itself is such another fault; the sum is that of whole numbers of any size
-unfoldable pub checked : Natural → Natural → Natural → ClippingPredictorConfig → Checked
-checked Outside reference delay c = Refused PredictorWindows
-checked (Number window) Outside delay c = Refused PredictorWindows
-checked (Number window) (Number reference) Outside c = Refused PredictorWindows
-checked (Number window) (Number reference) (Number delay) c =
+unfoldable pub checked : Option ℕ → Option ℕ → Option ℕ → ClippingPredictorConfig → Result Settings Refusal
+checked None reference delay c = Err PredictorWindows
+checked (Some window) None delay c = Err PredictorWindows
+checked (Some window) (Some reference) None c = Err PredictorWindows
+checked (Some window) (Some reference) (Some delay) c =
     checked_if (ltb window (delay + reference)) (leb (delay + reference) max_capacity) (levels_in_range c.clipping_threshold c.crest_factor_margin)
     (record {
       enabled = c.enabled;
@@ -53,7 +43,7 @@ checked (Number window) (Number reference) (Number delay) c =
     })
 
 -- "window and reference length at least 1, delay at least 0"
-unfoldable pub settings_of : ClippingPredictorConfig → Checked
+unfoldable pub settings_of : ClippingPredictorConfig → Result Settings Refusal
 settings_of c = checked (at_least_of 1 c.window_length) (at_least_of 1 c.reference_window_length) (at_least_of 0 c.reference_window_delay) c
 
 -- a configuration from its parts

@@ -3,19 +3,20 @@
 #![tactic(auto)]
 
 ghost use Rattle.std.specs.Prelude.{◌≡◌, ◌*◌, ◌≤◌};
+ghost use Rattle.numbers.specs.Said.{said};
 ghost use Rattle.clipping_predictor.specs.Settings.{Good as GoodSettings};
 ghost use Rattle.clipping_predictor.specs.AllRings.{HeardOf, MayEnter, HeardLevelsOf};
 ghost use Rattle.clipping_predictor.specs.Predictor.{max_channels, Good, view_of, Fresh, CreatedOf, frame_fits, outcome_if, AnalyzedOf, ResetOf};
-ghost use Rattle.clipping_predictor.specs.EstimateCall.{arguments_of, drop_or, estimate_says, estimate_of};
+ghost use Rattle.clipping_predictor.specs.EstimateCall.{arguments_of, drop_or, estimate_of};
 
-use crate::measuring::{Brought, bring, hearing};
-pub use crate::modes::{Asked, Estimated, Question};
+use crate::measuring::{Brought, bring};
+pub use crate::modes::{Asked, Estimated};
 use crate::modes::{answered, joined};
 use crate::settings::{ClippingPredictorConfig, Settings};
 use clipping_predictor_level_buffer::ClippingPredictorLevelBuffer;
-use clipping_predictor_level_buffer::level::MAX_SAMPLES_PER_CHANNEL;
-use numbers::natural::Natural;
-use numbers::refusal::{Outcome, Refusal};
+use clipping_predictor_level_buffer::level::is_frame_size;
+use numbers::natural::within;
+use numbers::refusal::Refusal;
 
 mod making;
 pub mod measuring;
@@ -25,7 +26,7 @@ pub mod settings;
 // The most channels that a predictor has.
 pub const MAX_CHANNELS: usize = 8;
 
-// One ring for each channel; those past the channel count are not used.
+// One ring for each channel; those past the channel count are not used. No field says that they are in order: C's memory, which may hold any bits, is read into one.
 #[derive(Clone, Copy)]
 pub struct ClippingPredictor {
     pub rings: [ClippingPredictorLevelBuffer; MAX_CHANNELS],
@@ -33,17 +34,17 @@ pub struct ClippingPredictor {
     pub settings: Settings,
 }
 
-// What making answers. A refusal has a predictor of one channel beside it that is off.
+// What making answers. A refusal has a predictor of one channel beside it that is off: C's memory is written either way, so no `Result` holds the predictor.
 #[derive(Clone, Copy)]
 pub struct Created {
-    pub answer: Outcome,
+    pub answer: Result<(), Refusal>,
     pub predictor: ClippingPredictor,
 }
 
-// What a frame answers.
+// What a frame answers. A refusal hands the very predictor back, so no `Result` holds it.
 #[derive(Clone, Copy)]
 pub struct Analyzed {
-    pub answer: Outcome,
+    pub answer: Result<(), Refusal>,
     pub predictor: ClippingPredictor,
 }
 
@@ -55,19 +56,11 @@ pub struct Heard {
     pub clipped: u32,
 }
 
-// What an estimate is asked with, in range, or why it is refused.
-#[derive(Clone, Copy)]
-pub enum Arguments {
-    Given(usize, Asked),
-    Refused(Refusal),
-}
-
 // By how much the level is to fall, if at all, and whether the estimate is near.
 #[derive(Clone, Copy)]
-pub enum Estimate {
-    Refused(Refusal),
-    Nothing(bool),
-    Drop(i32, bool),
+pub struct Estimate {
+    pub drop: Option<i32>,
+    pub near: bool,
 }
 
 // A predictor with empty rings.
@@ -105,31 +98,28 @@ fn answer_of(drop: u8, near: bool) -> Estimate
     ensures { result ≡ drop_or drop near }
 {
     if drop == 0 {
-        return Estimate::Nothing(near);
+        return Estimate { drop: None, near };
     }
-    Estimate::Drop(drop as i32, near)
+    Estimate {
+        drop: Some(drop as i32),
+        near,
+    }
 }
 
 // Cause 9. A count of channels is at most 255 here by its type, so the product is one that fits.
 pub fn frame_fits(channels: u8, samples: usize, frame: &[f32]) -> bool
     ensures { result ≡ frame_fits channels samples frame.now }
 {
-    if samples < 1 {
-        return false;
-    }
-    if MAX_SAMPLES_PER_CHANNEL < samples {
-        return false;
-    }
-    frame.len() == (channels as usize) * samples
+    is_frame_size(samples) && frame.len() == (channels as usize) * samples
 }
 
-fn outcome_of(fits: bool) -> Outcome
+fn outcome_of(fits: bool) -> Result<(), Refusal>
     ensures { result ≡ outcome_if fits }
 {
     if fits {
-        return Outcome::Accepted;
+        return Ok(());
     }
-    Outcome::Refused(Refusal::FrameSize)
+    Err(Refusal::FrameSize)
 }
 
 // What an estimate is asked with, each number in its range.
@@ -140,37 +130,22 @@ fn arguments_in_range(
     default_step: i32,
     min_mic_level: i32,
     max_mic_level: i32,
-) -> Arguments
+) -> Result<(usize, Asked), Refusal>
     requires { 1 ≤ channels }
     ensures { result ≡ arguments_of channels channel level default_step min_mic_level max_mic_level }
 {
-    let first = numbers::natural::within(0, 255, level);
-    let Natural::Number(here) = first else {
-        return Arguments::Refused(Refusal::InputVolume);
-    };
-    let second = numbers::natural::within(0, channels - 1, channel);
-    let Natural::Number(place) = second else {
-        return Arguments::Refused(Refusal::EstimateRange);
-    };
-    let third = numbers::natural::within(1, 255, default_step);
-    let Natural::Number(step) = third else {
-        return Arguments::Refused(Refusal::EstimateRange);
-    };
-    let fourth = numbers::natural::within(0, 255, min_mic_level);
-    let Natural::Number(least) = fourth else {
-        return Arguments::Refused(Refusal::EstimateRange);
-    };
-    let fifth = numbers::natural::within(0, 255, max_mic_level);
-    let Natural::Number(most) = fifth else {
-        return Arguments::Refused(Refusal::EstimateRange);
-    };
+    let here = within(0, 255, level).ok_or(Refusal::InputVolume)?;
+    let place = within(0, channels - 1, channel).ok_or(Refusal::EstimateRange)?;
+    let step = within(1, 255, default_step).ok_or(Refusal::EstimateRange)?;
+    let least = within(0, 255, min_mic_level).ok_or(Refusal::EstimateRange)?;
+    let most = within(0, 255, max_mic_level).ok_or(Refusal::EstimateRange)?;
     if most < least {
-        return Arguments::Refused(Refusal::EstimateRange);
+        return Err(Refusal::EstimateRange);
     }
     if most < here {
-        return Arguments::Refused(Refusal::EstimateRange);
+        return Err(Refusal::EstimateRange);
     }
-    Arguments::Given(
+    Ok((
         place,
         Asked {
             level: here as u8,
@@ -178,13 +153,13 @@ fn arguments_in_range(
             least: least as u8,
             most: most as u8,
         },
-    )
+    ))
 }
 
 impl ClippingPredictor {
     // The predictor after a frame of all channels, one after another, what its rings then answer, and the most clipped samples that a channel has. A frame that does not fit, or that comes to a
     // predictor which is off, enters no ring.
-    pub fn heard(self, samples_per_channel: usize, frame: &[f32], question: Question) -> Heard
+    pub fn heard(self, samples_per_channel: usize, frame: &[f32], question: Option<Asked>) -> Heard
         requires { Good self }
         ensures { HeardOf self samples_per_channel frame.now question result }
     {
@@ -193,14 +168,20 @@ impl ClippingPredictor {
         self.heard_levels(brought, question)
     }
 
-    // Each ring is asked from its place in the array, of which no copy is made then. No level is refused, since its count is in range.
-    fn heard_levels(self, brought: Brought, question: Question) -> Heard
+    // Each ring is pushed to and asked in its place in the array, of which no copy is made then: an iterator that writes would leave its records unknown to the check. No level is refused, since its count is in range.
+    fn heard_levels(self, brought: Brought, question: Option<Asked>) -> Heard
         requires { Good self × MayEnter self brought }
         ensures { HeardLevelsOf self brought question result }
     {
+        let Some(levels) = brought.levels else {
+            return Heard {
+                predictor: self,
+                estimated: modes::no_estimate(),
+                clipped: brought.clipped,
+            };
+        };
         let settings = self.settings;
-        let channels = hearing(brought.hears, self.channels);
-        let levels = brought.levels;
+        let channels = self.channels;
         let mut p = self;
         let mut e = modes::no_estimate();
         for c in 0..channels {
@@ -225,11 +206,12 @@ impl ClippingPredictor {
         ensures { AnalyzedOf self samples_per_channel frame.now result }
     {
         let answer = outcome_of(frame_fits(self.channels as u8, samples_per_channel, frame));
-        let heard = self.heard(samples_per_channel, frame, Question::Nothing);
+        let heard = self.heard(samples_per_channel, frame, None);
         let predictor = heard.predictor;
         Analyzed { answer, predictor }
     }
 
+    // By place: of rings that are written through a slice of theirs the check knows afterwards how many they are, and no more.
     pub fn reset(self) -> ClippingPredictor
         requires { Good self }
         ensures { ResetOf self result }
@@ -250,9 +232,9 @@ impl ClippingPredictor {
         default_step: i32,
         min_mic_level: i32,
         max_mic_level: i32,
-    ) -> Estimate
+    ) -> Result<Estimate, Refusal>
         requires { Good self }
-        ensures { estimate_says result ≡ estimate_says (estimate_of (view_of self) (arguments_of self.channels channel level default_step min_mic_level max_mic_level)) }
+        ensures { said result ≡ said (estimate_of (view_of self) (arguments_of self.channels channel level default_step min_mic_level max_mic_level)) }
     {
         let given = arguments_in_range(
             self.channels,
@@ -263,11 +245,11 @@ impl ClippingPredictor {
             max_mic_level,
         );
         match given {
-            Arguments::Refused(cause) => Estimate::Refused(cause),
-            Arguments::Given(place, asked) => {
+            Err(cause) => Err(cause),
+            Ok((place, asked)) => {
                 let ring = self.rings[place];
                 let e = modes::estimate_for(self.settings, ring, asked);
-                answer_of(e.drop, e.low < e.high)
+                Ok(answer_of(e.drop, e.low < e.high))
             }
         }
     }

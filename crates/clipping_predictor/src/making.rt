@@ -2,14 +2,13 @@
 ghost use Rattle.clipping_predictor.specs.Predictor.{unmade, making_of, DecidedAs};
 
 use crate::MAX_CHANNELS;
-use crate::settings::{Checked, ClippingPredictorConfig, ClippingPredictorMode, Settings};
-use numbers::natural::Natural;
-use numbers::refusal::{Outcome, Refusal};
+use crate::settings::{ClippingPredictorConfig, ClippingPredictorMode, Settings};
+use numbers::refusal::Refusal;
 
-// The answer, and what is built beside it, which is in order.
+// The answer, and what is built beside it, which is in order: also beside a refusal, so that it is built in one place.
 #[derive(Clone, Copy)]
 pub struct Decided {
-    pub answer: Outcome,
+    pub answer: Result<(), Refusal>,
     pub channels: usize,
     pub settings: Settings,
 }
@@ -19,7 +18,7 @@ fn refused(cause: Refusal) -> Decided
     ensures { DecidedAs (unmade cause) result }
 {
     Decided {
-        answer: Outcome::Refused(cause),
+        answer: Err(cause),
         channels: 1,
         settings: Settings {
             enabled: false,
@@ -39,14 +38,14 @@ pub fn decide(num_channels: i32, config: ClippingPredictorConfig) -> Decided
     ensures { DecidedAs (making_of num_channels config) result }
 {
     let count = numbers::natural::within(1, MAX_CHANNELS, num_channels);
-    let Natural::Number(channels) = count else {
+    let Some(channels) = count else {
         return refused(Refusal::ChannelCount);
     };
     let checked = crate::settings::check(config);
     match checked {
-        Checked::Refused(cause) => refused(cause),
-        Checked::InOrder(settings) => Decided {
-            answer: Outcome::Accepted,
+        Err(cause) => refused(cause),
+        Ok(settings) => Decided {
+            answer: Ok(()),
             channels,
             settings,
         },

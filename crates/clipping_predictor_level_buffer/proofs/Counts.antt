@@ -10,13 +10,12 @@ use lib.IntN.{ℤ, pos, negsuc}
 use lib.Ieee.{Float}
 use lib.ListN.{get_or, take}
 use borrow.Author.Tests.{le-leb, lt-leb}
-use Rattle.numbers.specs.declared.natural.Natural.TheVariants.{Number, Outside}
+use Rattle.std.specs.Prelude.{Err, None, Ok, Some}
 use Rattle.numbers.specs.declared.refusal.Refusal.TheVariants.{RingRange}
-use Rattle.numbers.specs.declared.refusal.Outcome.TheVariants.{Accepted, Refused}
 use Rattle.numbers.specs.Natural.{within_of}
-use Rattle.numbers.specs.Said.{outcome_says}
 use Rattle.numbers.proofs.Signs.{clash}
 use Rattle.numbers.proofs.Ranges.{told, outside}
+use Rattle.numbers.specs.Said.{said}
 use Rattle.clipping_predictor_level_buffer.specs.declared.level.Level.{Level}
 use Rattle.clipping_predictor_level_buffer.specs.declared.ClippingPredictorLevelBuffer.{ClippingPredictorLevelBuffer}
 use Rattle.clipping_predictor_level_buffer.specs.Level.{max_samples_per_channel}
@@ -54,41 +53,41 @@ unfolding is_count
 no_count n h = lt-leb n max_samples_per_channel h
 
 -- a number that is outside
-pub outside_count : (x : ℤ) → within_of 0 max_samples_per_channel x ≡ Outside → is_count x ≡ false
+pub outside_count : (x : ℤ) → within_of 0 max_samples_per_channel x ≡ None → is_count x ≡ false
 unfolding is_count
 outside_count (pos n) e = ⊎_elim (λ h. absurd (not-suc-le-zero h)) (no_count n) (outside 0 max_samples_per_channel n e)
 outside_count (negsuc n) e = refl
 
 -- and one that is inside
-pub inside_count : (x : ℤ) (n : ℕ) → within_of 0 max_samples_per_channel x ≡ Number n → (n ≤ max_samples_per_channel) × (is_count x ≡ true)
+pub inside_count : (x : ℤ) (n : ℕ) → within_of 0 max_samples_per_channel x ≡ Some n → (n ≤ max_samples_per_channel) × (is_count x ≡ true)
 inside_count x n e = let i = told 0 max_samples_per_channel x n e in (i.most, ap is_count i.is ∙ is_count_lem n i.most)
 
 -- ---- what a push answers
 
-pub answers : (x : ℤ) → is_count x ≡ true → Accepted ≡ pushing_of x
+pub answers : (x : ℤ) → is_count x ≡ true → Ok tt ≡ pushing_of x
 unfolding pushing_of
 answers x t = rw t
 
-pub answers_not : (x : ℤ) → is_count x ≡ false → Refused RingRange ≡ pushing_of x
+pub answers_not : (x : ℤ) → is_count x ≡ false → Err RingRange ≡ pushing_of x
 unfolding pushing_of
 answers_not x t = rw t
 
 module _ (x : ℤ) (s : ClippingPredictorLevelBuffer) (level : Level) where
   -- a refused push leaves the very ring
-  pub push_refused : is_count x ≡ false → Good s → PushedOf x s level (record { ring = s; answer = Refused RingRange })
+  pub push_refused : is_count x ≡ false → Good s → PushedOf x s level (record { ring = s; answer = Err RingRange })
   push_refused t ok = record {
-    answer_is = ap outcome_says (answers_not x t);
+    answer_is = ap said (answers_not x t);
     pushed = record { good = ok; capacity_is = refl; stored_is = rw t; same = λ e. refl };
   }
 
-  pub push_accepted : (r : ClippingPredictorLevelBuffer) → is_count x ≡ true → Pushed s level r → PushedOf x s level (record { ring = r; answer = Accepted })
+  pub push_accepted : (r : ClippingPredictorLevelBuffer) → is_count x ≡ true → Pushed s level r → PushedOf x s level (record { ring = r; answer = (Ok tt) })
   push_accepted r t p = record {
-    answer_is = ap outcome_says (answers x t);
+    answer_is = ap said (answers x t);
     pushed = record { good = p.good; capacity_is = p.capacity_is; stored_is = rw t p.stored_is; same = λ e. clash (sym t ∙ e) };
   }
 
 -- a count that is a number n is offered as n
-pub push_offered : (x : ℤ) (n : ℕ) (s : ClippingPredictorLevelBuffer) (average max : Float) (r : AfterPush) → within_of 0 max_samples_per_channel x ≡ Number n
+pub push_offered : (x : ℤ) (n : ℕ) (s : ClippingPredictorLevelBuffer) (average max : Float) (r : AfterPush) → within_of 0 max_samples_per_channel x ≡ Some n
     → PushedOf (pos n) s (record { average = average; max = max; clipped = n }) r → PushedOf x s (offered average max x) r
 push_offered x n s average max r e p = subst (λ (z : ℤ). PushedOf z s (offered average max z) r) (sym (told 0 max_samples_per_channel x n e).is) p
 

@@ -5,21 +5,21 @@ use mathlib.Core.List.{List, [], ◌∷◌}
 use lib.IntN.{pos, negsuc}
 use lib.Ieee.{Float, nan, inf, fin, add, mul, div, lt, le, eq, of_int}
 use lib.ListN.{length, take, drop, replicate}
+use Rattle.std.specs.Prelude.{None, Ok, Some}
 use Rattle.levels.specs.FloatParts.{magnitude_of}
 use Rattle.clipping_predictor_level_buffer.specs.declared.level.Level.{Level}
-use Rattle.clipping_predictor_level_buffer.specs.declared.Metrics.TheVariants.{Missing, Found}
 use Rattle.clipping_predictor_level_buffer.specs.Statistics.{sum, mean, largest}
 use Rattle.clipping_predictor_level_buffer.specs.Clipped.{is_clipped, count_of, total, clipped_in}
 use Rattle.clipping_predictor_level_buffer.specs.Level.{frame_record}
 use Rattle.clipping_predictor_level_buffer.specs.Metrics.{metrics_over, partial_metrics, compute_partial_metrics}
 
 -- "Stored 9, delay 5, items 5: none"
-pub stored_9 : (s : List Level) → length s ≡ 9 → compute_partial_metrics 10 s (pos 5) (pos 5) ≡ Missing
+pub stored_9 : (s : List Level) → length s ≡ 9 → compute_partial_metrics 10 s (pos 5) (pos 5) ≡ Ok None
 unfolding compute_partial_metrics partial_metrics
 stored_9 s h = rw h
 
 -- "stored 10: metrics"
-pub stored_10 : (s : List Level) → length s ≡ 10 → compute_partial_metrics 10 s (pos 5) (pos 5) ≡ Found (metrics_over (take 5 (drop 5 s)))
+pub stored_10 : (s : List Level) → length s ≡ 10 → compute_partial_metrics 10 s (pos 5) (pos 5) ≡ Ok (Some (metrics_over (take 5 (drop 5 s))))
 unfolding compute_partial_metrics partial_metrics
 stored_10 s h = rw h
 
@@ -31,7 +31,7 @@ abbrev one_half : Float
 one_half = fin false 3 (negsuc 0)
 
 -- of ten records of mean 3, peak 1.5 and 7 clipped samples, five have the metrics 3, 1.5 and 35
-pub ten_alike : compute_partial_metrics 10 (replicate 10 (record { average = three; max = one_half; clipped = 7 })) (pos 5) (pos 5) ≡ Found (record { average = three; max = one_half; clipped = 35 })
+pub ten_alike : compute_partial_metrics 10 (replicate 10 (record { average = three; max = one_half; clipped = 7 })) (pos 5) (pos 5) ≡ Ok (Some (record { average = three; max = one_half; clipped = 35 }))
 unfolding compute_partial_metrics partial_metrics metrics_over mean sum largest total add div lt of_int
 ten_alike = refl
 

@@ -10,4 +10,3 @@ pub mod Answers
 pub mod Sums
 pub mod Pushes
 pub mod Edges
-pub mod Says

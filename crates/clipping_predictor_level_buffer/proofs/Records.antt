@@ -6,10 +6,10 @@ use native.Mathlib.Nat.{not-suc-le-zero, le_of_suc-le-suc}
 use native.Mathlib.Omega.{arith}
 use lib.ListN.{length, get_or, drop, set, length-set}
 use lib.Seq.{get_or-drop, get_or-set_same, get_or-set_other}
+use Rattle.std.specs.Prelude.{None, Some}
 use Rattle.numbers.proofs.Listed.{length_listed, get_d_listed, listed_push}
 use Rattle.clipping_predictor_level_buffer.specs.declared.level.Level.{Level}
 use Rattle.clipping_predictor_level_buffer.specs.declared.ClippingPredictorLevelBuffer.{ClippingPredictorLevelBuffer}
-use Rattle.clipping_predictor_level_buffer.specs.declared.Stored.TheVariants.{Record, Missing}
 use Rattle.clipping_predictor_level_buffer.specs.Level.{max_samples_per_channel}
 use Rattle.clipping_predictor_level_buffer.specs.Ring.{no_level, Counted, Good, behind, after, placed, stored, stored_at, push, Pushed}
 use Rattle.clipping_predictor_level_buffer.proofs.Places.{after_within, behind_none, behind_next, behind_other}
@@ -33,13 +33,13 @@ later_is r d i h = get_or-drop d (stored r) i no_level ∙ stored_is r (d + i) h
 
 -- ---- one of them
 
-pub too_far : (ls : List Level) (i : ℕ) → length ls ≤ i → Missing ≡ stored_at ls i
+pub too_far : (ls : List Level) (i : ℕ) → length ls ≤ i → None ≡ stored_at ls i
 unfolding stored_at
 too_far [] i h = refl
 too_far (l ∷ ls) zero h = absurd (not-suc-le-zero h)
 too_far (l ∷ ls) (suc i) h = too_far ls i (le_of_suc-le-suc h)
 
-pub near : (ls : List Level) (i : ℕ) → i < length ls → Record (get_or ls i no_level) ≡ stored_at ls i
+pub near : (ls : List Level) (i : ℕ) → i < length ls → Some (get_or ls i no_level) ≡ stored_at ls i
 unfolding stored_at
 near [] i h = absurd (not-suc-le-zero h)
 near (l ∷ ls) zero h = refl

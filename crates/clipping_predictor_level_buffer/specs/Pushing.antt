@@ -1,7 +1,7 @@
 -- Document 02 (xi): "It refuses with 11 a record pushed with a count not 0 to 480." Definitions only.
-use Rattle.std.specs.Prelude.{◌≡◌, Bool, true, false, List, ℕ, leb, ℤ, pos, negsuc, nat_abs, Float}
-use Rattle.numbers.specs.declared.refusal.Outcome.{Outcome}
-use Rattle.numbers.specs.Said.{outcome_says}
+use Rattle.std.specs.Prelude.{◌≡◌, Bool, true, false, List, ℕ, leb, ℤ, pos, negsuc, nat_abs, Float, Result}
+use Rattle.numbers.specs.declared.refusal.Refusal.{Refusal}
+use Rattle.numbers.specs.Said.{said}
 use Rattle.clipping_predictor_level_buffer.specs.declared.level.Level.{Level}
 use Rattle.clipping_predictor_level_buffer.specs.declared.ClippingPredictorLevelBuffer.{ClippingPredictorLevelBuffer}
 use Rattle.clipping_predictor_level_buffer.specs.declared.AfterPush.{AfterPush}
@@ -19,7 +19,7 @@ abbrev pub offered : Float → Float → ℤ → Level
 offered average max clipped = record { average = average; max = max; clipped = nat_abs clipped }
 
 -- what a push answers
-unfoldable pub pushing_of : ℤ → Outcome
+unfoldable pub pushing_of : ℤ → Result (Unit {0}) Refusal
 pushing_of clipped = accepted_if (is_count clipped)
 
 -- what is stored then
@@ -36,5 +36,5 @@ pub record PushedIf (clipped : ℤ) (s : ClippingPredictorLevelBuffer) (level : 
 
 -- that ring, with the answer beside it
 pub record PushedOf (clipped : ℤ) (s : ClippingPredictorLevelBuffer) (level : Level) (r : AfterPush) : Type 0 where
-  pub answer_is : outcome_says r.answer ≡ outcome_says (pushing_of clipped)
+  pub answer_is : said r.answer ≡ said (pushing_of clipped)
   pub pushed : PushedIf clipped s level r.ring

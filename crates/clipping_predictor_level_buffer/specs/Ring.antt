@@ -1,13 +1,10 @@
 -- Document 01, "Ring and predictors": a ring holds records up to its capacity; "a push into a full one replaces the oldest. .. Reset empties it." A ring stands for the list of the
 -- records that it stores, newest first: its tail and its unused places are free, and no promise speaks of them. Definitions only.
-use Rattle.std.specs.Prelude.{◌≡◌, Bool, true, false, List, [], ◌∷◌, ℕ, zero, suc, ◌+◌, ◌-◌, ◌≤◌, ◌<◌, leb, ltb, length, get_or, take}
-use Rattle.std.proofs.Math.Option.{Option, none, some}
+use Rattle.std.specs.Prelude.{◌≡◌, Bool, true, false, List, [], ◌∷◌, ℕ, zero, suc, ◌+◌, ◌-◌, ◌≤◌, ◌<◌, leb, ltb, length, get_or, take, None, Some, Option}
 use Rattle.std.specs.Float.{nan}
 use Rattle.numbers.specs.Listed.{listed}
 use Rattle.clipping_predictor_level_buffer.specs.declared.level.Level.{Level}
 use Rattle.clipping_predictor_level_buffer.specs.declared.ClippingPredictorLevelBuffer.{ClippingPredictorLevelBuffer}
-use Rattle.clipping_predictor_level_buffer.specs.declared.Stored.{Stored}
-use Rattle.clipping_predictor_level_buffer.specs.declared.Stored.TheVariants.{Record, Missing}
 use Rattle.clipping_predictor_level_buffer.specs.Level.{max_samples_per_channel}
 
 -- "a fixed array of 64 records"
@@ -49,15 +46,10 @@ placed places c t i = get_or places (behind c t i) no_level
 unfoldable pub stored : ClippingPredictorLevelBuffer → List Level
 stored r = listed (placed r.data r.capacity r.tail) r.size
 
--- document 01's value for each case of the answer: a record, or none
-abbrev pub stored_says : Stored → Option Level
-stored_says (Record l) = some l
-stored_says Missing = none
-
 -- one of them, 0 being the newest
-unfoldable pub stored_at : List Level → ℕ → Stored
-stored_at [] i = Missing
-stored_at (l ∷ ls) zero = Record l
+unfoldable pub stored_at : List Level → ℕ → Option Level
+stored_at [] i = None
+stored_at (l ∷ ls) zero = Some l
 stored_at (l ∷ ls) (suc i) = stored_at ls i
 
 -- ---- good order

@@ -1,15 +1,14 @@
 -- How far a measurement has come: what the private functions of `level` say of it. Definitions only.
-use Rattle.std.specs.Prelude.{◌≡◌, Bool, ℕ, ◌+◌, ◌*◌, ◌^◌, ◌≤◌, max, pos, Float, length, take, get_or}
+use Rattle.std.specs.Prelude.{◌≡◌, Bool, ℕ, ◌+◌, ◌*◌, ◌^◌, ◌≤◌, max, pos, Float, take}
 use mathlib.Core.List.{List, map, foldl}
-use Rattle.std.specs.Float.{nan, binary32}
+use Rattle.std.specs.Float.{binary32}
 use Rattle.std.specs.Float.Ieee.{of_bits, of_int, add, div, lt}
 use Rattle.levels.specs.FloatParts.{magnitude_bits_of}
 use Rattle.clipping_predictor_level_buffer.specs.declared.level.Running.{Running}
 use Rattle.clipping_predictor_level_buffer.specs.declared.level.Peaks.{Peaks}
 use Rattle.clipping_predictor_level_buffer.specs.declared.level.Taking.{Taking}
-use Rattle.clipping_predictor_level_buffer.specs.declared.level.Both.{Both}
 use Rattle.clipping_predictor_level_buffer.specs.declared.level.Level.{Level}
-use Rattle.clipping_predictor_level_buffer.specs.Statistics.{plus_zero, sum, larger}
+use Rattle.clipping_predictor_level_buffer.specs.Statistics.{sum, larger}
 use Rattle.clipping_predictor_level_buffer.specs.Clipped.{count_of, clipped_in}
 use Rattle.clipping_predictor_level_buffer.specs.Level.{square_of}
 
@@ -46,48 +45,34 @@ is_below x = lt (magnitude_from x) (of_int binary32 (pos 32767))
 abbrev pub counting_four : ℕ → Float → Float → Float → Float → ℕ
 counting_four n w x y z = n + count_of w + count_of x + count_of y + count_of z
 
--- a measurement by fours at its start
-abbrev pub nothing_taken : Taking
-nothing_taken = record {
-  sum = plus_zero;
-  peaks = record { w = plus_zero; x = plus_zero; y = plus_zero; z = plus_zero };
-  clipped = 0;
-}
-
--- the sample at a place
-abbrev pub sample_at : List Float → ℕ → Float
-sample_at xs i = get_or xs i nan
-
 -- "squares are summed .. in sample order"
 abbrev pub plus_square : Float → Float → Float
 plus_square s x = add binary32 s (square_of x)
 
--- a measurement with four samples more, from i on
-abbrev pub four_taken : Taking → List Float → ℕ → Taking
-four_taken t xs i = record {
-  sum = plus_square (plus_square (plus_square (plus_square t.sum (sample_at xs i)) (sample_at xs (i + 1))) (sample_at xs (i + 2))) (sample_at xs (i + 3));
-  peaks = with_four t.peaks (sample_at xs i) (sample_at xs (i + 1)) (sample_at xs (i + 2)) (sample_at xs (i + 3));
-  clipped = counting_four t.clipped (sample_at xs i) (sample_at xs (i + 1)) (sample_at xs (i + 2)) (sample_at xs (i + 3));
+-- a measurement with four samples more
+abbrev pub four_taken : Taking → Float → Float → Float → Float → Taking
+four_taken t w x y z = record {
+  sum = plus_square (plus_square (plus_square (plus_square t.sum w) x) y) z;
+  peaks = with_four t.peaks w x y z;
+  clipped = counting_four t.clipped w x y z;
 }
+
+-- the parts of its peak as one
+abbrev pub running_of : Taking → Running
+running_of t = record { sum = t.sum; peak = largest_part t.peaks; clipped = t.clipped }
 
 -- the level that a measurement of n samples gives
 abbrev pub level_from : Running → ℕ → Level
 level_from r n = record { average = div binary32 r.sum (of_int binary32 (pos n)); max = r.peak; clipped = r.clipped }
 
--- the samples before r's place have r's sum, peak and count
-pub record Reached (samples : List Float) (r : Running) : Type 0 where
-  pub within : r.at ≤ length samples
-  pub sum_is : r.sum ≡ sum (map square_of (take r.at samples))
-  pub peak_is : Stands (peak_bits (take r.at samples)) r.peak
-  pub clipped_is : r.clipped ≡ clipped_in (take r.at samples)
+-- the samples before a place have r's sum, peak and count
+pub record Reached (samples : List Float) (at : ℕ) (r : Running) : Type 0 where
+  pub sum_is : r.sum ≡ sum (map square_of (take at samples))
+  pub peak_is : Stands (peak_bits (take at samples)) r.peak
+  pub clipped_is : r.clipped ≡ clipped_in (take at samples)
 
 -- all samples have r's sum, peak and count
 pub record Passed (samples : List Float) (r : Running) : Type 0 where
   pub sum_is : r.sum ≡ sum (map square_of samples)
   pub peak_is : Stands (peak_bits samples) r.peak
   pub clipped_is : r.clipped ≡ clipped_in samples
-
--- two measurements have come equally far or not: each as far as its own says
-pub record BothReached (first second : List Float) (r : Both) : Type 0 where
-  pub first_is : Reached first r.first
-  pub second_is : Reached second r.second

@@ -2,25 +2,26 @@
 // capacity, and `&mut self` a ring by value that is handed back.
 #![tactic(auto)]
 
-ghost use Rattle.std.specs.Prelude.{◌≡◌, ◌+◌, ◌≤◌, ◌<◌, min, pos, length, take, drop};
-ghost use Rattle.numbers.specs.Said.{outcome_says};
+ghost use Rattle.std.specs.Prelude.{◌≡◌, ◌+◌, ◌≤◌, ◌<◌, pos, length, take, drop};
+ghost use Rattle.numbers.specs.Said.{said};
 ghost use Rattle.clipping_predictor_level_buffer.specs.Statistics.{larger};
 ghost use Rattle.clipping_predictor_level_buffer.specs.Level.{max_samples_per_channel};
-ghost use Rattle.clipping_predictor_level_buffer.specs.Ring.{max_capacity, Capacity, Good, behind, after, stored, stored_says, stored_at, Emptied, Pushed};
-ghost use Rattle.clipping_predictor_level_buffer.specs.Pushing.{offered, pushing_of, PushedIf, PushedOf};
+ghost use Rattle.clipping_predictor_level_buffer.specs.Ring.{max_capacity, Capacity, Good, behind, after, stored, stored_at, Emptied, Pushed};
+ghost use Rattle.clipping_predictor_level_buffer.specs.Pushing.{offered, PushedOf};
 ghost use Rattle.clipping_predictor_level_buffer.specs.Making.{MadeOf};
-ghost use Rattle.clipping_predictor_level_buffer.specs.Metrics.{metrics_over, metrics_says, partial_metrics, compute_partial_metrics};
+ghost use Rattle.clipping_predictor_level_buffer.specs.Metrics.{metrics_over, partial_metrics, compute_partial_metrics};
 
 use crate::level::{Level, MAX_SAMPLES_PER_CHANNEL};
-use numbers::natural::Natural;
-use numbers::refusal::{Outcome, Refusal};
+use numbers::natural::within;
+use numbers::refusal::Refusal;
 
 pub mod level;
 
 // The most records that a ring holds.
 pub const MAX_CAPACITY: usize = 64;
 
-// The newest record is at the tail, the one before it a place behind, and so on around; `size` of them are stored.
+// The newest record is at the tail, the one before it a place behind, and so on around; `size` of them are stored. The layout is C's, which may hold any bits: so no ring is a
+// collection of the library's, and that one is in order is a clause and no field's promise.
 #[repr(C)]
 #[derive(Clone, Copy)]
 pub struct ClippingPredictorLevelBuffer {
@@ -30,36 +31,21 @@ pub struct ClippingPredictorLevelBuffer {
     pub capacity: usize,
 }
 
-// What making a ring answers. A refusal has an empty ring of capacity 1 beside it.
+// What making a ring answers. A refusal has an empty ring of capacity 1 beside it, which a `Result` would not hold.
 #[derive(Clone, Copy)]
 pub struct Made {
-    pub answer: Outcome,
+    pub answer: Result<(), Refusal>,
     pub ring: ClippingPredictorLevelBuffer,
 }
 
-// What a push answers. A refusal has the very ring beside it.
+// What a push answers. A refusal has the very ring beside it, which a `Result` would not hold.
 #[derive(Clone, Copy)]
 pub struct AfterPush {
     pub ring: ClippingPredictorLevelBuffer,
-    pub answer: Outcome,
+    pub answer: Result<(), Refusal>,
 }
 
-// Metrics over some of the records, or why there are none.
-#[derive(Clone, Copy)]
-pub enum Metrics {
-    Refused(Refusal),
-    Missing,
-    Found(Level),
-}
-
-// The record at a place, counted from the newest.
-#[derive(Clone, Copy)]
-pub enum Stored {
-    Record(Level),
-    Missing,
-}
-
-// The place after the tail.
+// The place after the tail. As in the source a test and no `%`, which divides.
 fn next(capacity: usize, tail: usize) -> usize
     requires { (capacity ≤ max_capacity) × (tail < capacity) }
     ensures { result ≡ after capacity tail }
@@ -79,15 +65,7 @@ fn place(capacity: usize, tail: usize, i: usize) -> usize
     }
 }
 
-// One record more, until the ring is full.
-fn grown(capacity: usize, size: usize) -> usize
-    requires { (capacity ≤ max_capacity) × (size ≤ capacity) }
-    ensures { result ≡ min capacity (size + 1) }
-{
-    if size < capacity { size + 1 } else { size }
-}
-
-// The larger of two, and the first where the second is not a number.
+// The larger of two, and the first where the second is not a number. `f32::max` answers the second where the first is none, and leaves open which zero it answers.
 fn larger(a: f32, b: f32) -> f32
     ensures { result ≡ larger a b }
 {
@@ -99,13 +77,8 @@ impl ClippingPredictorLevelBuffer {
         requires { Capacity capacity }
         ensures { Emptied capacity result }
     {
-        let zero = Level {
-            average: 0.0,
-            max: 0.0,
-            clipped: 0,
-        };
         ClippingPredictorLevelBuffer {
-            data: [zero; MAX_CAPACITY],
+            data: [Level::default(); MAX_CAPACITY],
             tail: 0,
             size: 0,
             capacity,
@@ -119,19 +92,19 @@ impl ClippingPredictorLevelBuffer {
     {
         if capacity < 1 {
             return Made {
-                answer: Outcome::Accepted,
+                answer: Ok(()),
                 ring: ClippingPredictorLevelBuffer::empty(1),
             };
         }
-        let wanted = numbers::natural::within(1, MAX_CAPACITY, capacity);
-        let Natural::Number(n) = wanted else {
+        let wanted = within(1, MAX_CAPACITY, capacity);
+        let Some(n) = wanted else {
             return Made {
-                answer: Outcome::Refused(Refusal::RingRange),
+                answer: Err(Refusal::RingRange),
                 ring: ClippingPredictorLevelBuffer::empty(1),
             };
         };
         Made {
-            answer: Outcome::Accepted,
+            answer: Ok(()),
             ring: ClippingPredictorLevelBuffer::empty(n),
         }
     }
@@ -166,7 +139,7 @@ impl ClippingPredictorLevelBuffer {
         ensures { Pushed self level result }
     {
         let at = next(self.capacity, self.tail);
-        let size = grown(self.capacity, self.size);
+        let size = (self.size + 1).min(self.capacity);
         let mut r = self;
         r.data[at] = level;
         r.tail = at;
@@ -183,12 +156,12 @@ impl ClippingPredictorLevelBuffer {
         if (MAX_SAMPLES_PER_CHANNEL as u32) < level.clipped {
             return AfterPush {
                 ring: self,
-                answer: Outcome::Refused(Refusal::RingRange),
+                answer: Err(Refusal::RingRange),
             };
         }
         AfterPush {
             ring: self.pushed(level),
-            answer: Outcome::Accepted,
+            answer: Ok(()),
         }
     }
 
@@ -196,11 +169,11 @@ impl ClippingPredictorLevelBuffer {
         requires { Good self }
         ensures { PushedOf clipped self (offered average max clipped) result }
     {
-        let counted = numbers::natural::within(0, MAX_SAMPLES_PER_CHANNEL, clipped);
-        let Natural::Number(n) = counted else {
+        let counted = within(0, MAX_SAMPLES_PER_CHANNEL, clipped);
+        let Some(n) = counted else {
             return AfterPush {
                 ring: self,
-                answer: Outcome::Refused(Refusal::RingRange),
+                answer: Err(Refusal::RingRange),
             };
         };
         let level = Level {
@@ -212,15 +185,15 @@ impl ClippingPredictorLevelBuffer {
     }
 
     // The i-th record, counted from the newest as 0.
-    pub fn stored_at(self, i: usize) -> Stored
+    pub fn stored_at(self, i: usize) -> Option<Level>
         requires { Good self }
-        ensures { stored_says result ≡ stored_says (stored_at (stored self) i) }
+        ensures { result ≡ stored_at (stored self) i }
     {
         if self.size <= i {
-            return Stored::Missing;
+            return None;
         }
         let at = place(self.capacity, self.tail, i);
-        Stored::Record(self.data[at])
+        Some(self.data[at])
     }
 
     // The metrics over `items` stored records, of which the newest lies `delay` places behind the tail.
@@ -247,64 +220,37 @@ impl ClippingPredictorLevelBuffer {
     }
 
     // `compute_partial_metrics` on unsigned numbers. Each number is tested against the capacity before they are added.
-    pub fn partial_metrics(self, delay: usize, items: usize) -> Metrics
+    pub fn partial_metrics(self, delay: usize, items: usize) -> Result<Option<Level>, Refusal>
         requires { Good self }
-        ensures { metrics_says result ≡ metrics_says (partial_metrics self.capacity (stored self) delay items) }
+        ensures { said result ≡ said (partial_metrics self.capacity (stored self) delay items) }
     {
         if items < 1 {
-            return Metrics::Refused(Refusal::RingRange);
+            return Err(Refusal::RingRange);
         }
         if self.capacity < items {
-            return Metrics::Refused(Refusal::RingRange);
+            return Err(Refusal::RingRange);
         }
         if self.capacity - items < delay {
-            return Metrics::Refused(Refusal::RingRange);
+            return Err(Refusal::RingRange);
         }
         if self.size < delay + items {
-            return Metrics::Missing;
+            return Ok(None);
         }
-        Metrics::Found(self.summed(delay, items))
+        Ok(Some(self.summed(delay, items)))
     }
 
-    pub fn compute_partial_metrics(self, delay: i32, num_items: i32) -> Metrics
+    pub fn compute_partial_metrics(
+        self,
+        delay: i32,
+        num_items: i32,
+    ) -> Result<Option<Level>, Refusal>
         requires { Good self }
-        ensures { metrics_says result ≡ metrics_says (compute_partial_metrics self.capacity (stored self) delay num_items) }
+        ensures { said result ≡ said (compute_partial_metrics self.capacity (stored self) delay num_items) }
     {
-        let skipped = numbers::natural::within(0, self.capacity, delay);
-        let Natural::Number(d) = skipped else {
-            return Metrics::Refused(Refusal::RingRange);
-        };
-        let counted = numbers::natural::within(1, self.capacity, num_items);
-        let Natural::Number(n) = counted else {
-            return Metrics::Refused(Refusal::RingRange);
-        };
+        let d = within(0, self.capacity, delay).ok_or(Refusal::RingRange)?;
+        let n = within(1, self.capacity, num_items).ok_or(Refusal::RingRange)?;
         self.partial_metrics(d, n)
     }
-}
-
-// What a push with this count answers.
-fn push_answer(clipped: i32) -> Outcome
-    ensures { outcome_says result ≡ outcome_says (pushing_of clipped) }
-{
-    let counted = numbers::natural::within(0, MAX_SAMPLES_PER_CHANNEL, clipped);
-    match counted {
-        Natural::Number(_) => Outcome::Accepted,
-        Natural::Outside => Outcome::Refused(Refusal::RingRange),
-    }
-}
-
-// The ring that it leaves.
-fn ring_after(
-    ring: ClippingPredictorLevelBuffer,
-    average: f32,
-    max: f32,
-    clipped: i32,
-) -> ClippingPredictorLevelBuffer
-    requires { Good ring }
-    ensures { PushedIf clipped ring (offered average max clipped) result }
-{
-    let after = ring.push(average, max, clipped);
-    after.ring
 }
 
 // A push through a mutable reference: the ring is taken out, pushed to, and put back.
@@ -313,10 +259,11 @@ pub fn push_into(
     average: f32,
     max: f32,
     clipped: i32,
-) -> Outcome
+) -> Result<(), Refusal>
     requires { Good ring.old }
     ensures { PushedOf clipped ring.entry.now (offered average max clipped) (record { ring = ring.exit.now; answer = result }) }
 {
-    *ring = ring_after(*ring, average, max, clipped);
-    push_answer(clipped)
+    let after = ring.push(average, max, clipped);
+    *ring = after.ring;
+    after.answer
 }

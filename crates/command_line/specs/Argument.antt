@@ -1,20 +1,18 @@
 -- What an argument asks for. Definitions only.
-use Rattle.std.specs.Prelude.{Bool, true, false, ◌&&◌, List, [], ◌∷◌, ℕ, eqb}
+use Rattle.std.specs.Prelude.{Bool, true, false, List, [], ◌∷◌, ℕ, eqb}
+use Rattle.std.specs.Str.{bytes_eq}
 use Rattle.command_line.specs.declared.argument.Argument.{Argument}
 use Rattle.command_line.specs.declared.argument.Argument.TheVariants.{Help, Version, Dashes, Unknown, StandardInput, File}
 
 -- byte by byte
-unfoldable pub same_text : List ℕ → List ℕ → Bool
-same_text [] [] = true
-same_text [] (b ∷ others) = false
-same_text (a ∷ more) [] = false
-same_text (a ∷ more) (b ∷ others) = eqb a b && same_text more others
+abbrev pub same_text : List ℕ → List ℕ → Bool
+same_text = bytes_eq
 
 -- '-'
 abbrev pub dash : ℕ
 dash = 45
 
-unfoldable pub begins_with_dash : List ℕ → Bool
+abbrev pub begins_with_dash : List ℕ → Bool
 begins_with_dash [] = false
 begins_with_dash (c ∷ text) = eqb c dash
 

@@ -1,6 +1,6 @@
 // What an argument asks for.
 ghost use Rattle.std.specs.Prelude.{◌≡◌};
-ghost use Rattle.command_line.specs.Argument.{same_text, begins_with_dash, argument_of};
+ghost use Rattle.command_line.specs.Argument.{argument_of};
 
 #[derive(Clone, Copy)]
 pub enum Argument {
@@ -13,48 +13,24 @@ pub enum Argument {
     File,
 }
 
-pub fn same_text(a: &[u8], b: &[u8]) -> bool
-    ensures { result ≡ same_text a.now b.now }
-{
-    if a.len() != b.len() {
-        return false;
-    }
-    let mut i = 0;
-    while i < a.len() {
-        if a[i] != b[i] {
-            return false;
-        }
-        i += 1;
-    }
-    true
-}
-
-fn begins_with_dash(text: &[u8]) -> bool
-    ensures { result ≡ begins_with_dash text.now }
-{
-    if text.len() == 0 {
-        return false;
-    }
-    text[0] == b'-'
-}
-
+// By tests and no match, whose arms with a byte string tell a proof nothing but its length.
 #[tactic(auto, unfolding(crate::specs::Argument::argument_of))]
 pub fn asked(text: &[u8]) -> Argument
     ensures { result ≡ argument_of text.now }
 {
-    if same_text(text, b"--help") {
+    if text == b"--help".as_slice() {
         return Argument::Help;
     }
-    if same_text(text, b"--version") {
+    if text == b"--version".as_slice() {
         return Argument::Version;
     }
-    if same_text(text, b"--") {
+    if text == b"--".as_slice() {
         return Argument::Dashes;
     }
-    if same_text(text, b"-") {
+    if text == b"-".as_slice() {
         return Argument::StandardInput;
     }
-    if begins_with_dash(text) {
+    if text.first() == Some(&b'-') {
         return Argument::Unknown;
     }
     Argument::File

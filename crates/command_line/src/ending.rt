@@ -2,21 +2,24 @@
 ghost use Rattle.std.specs.Prelude.{◌≡◌};
 ghost use Rattle.command_line.specs.Ending.{status_of};
 
-#[derive(Clone, Copy)]
-pub enum Ending {
-    Done,
+// Why a program does not end well.
+#[derive(Clone, Copy, Debug, PartialEq, Eq)]
+pub enum Failure {
     // A read or a write failed.
     Failed,
     // An option that there is not.
     Misused,
 }
 
-pub fn status(ending: Ending) -> i32
+// Done, or why not.
+pub type Ending = Result<(), Failure>;
+
+pub fn status(ending: Ending) -> u8
     ensures { result ≡ status_of ending }
 {
     match ending {
-        Ending::Done => 0,
-        Ending::Failed => 1,
-        Ending::Misused => 2,
+        Ok(()) => 0,
+        Err(Failure::Failed) => 1,
+        Err(Failure::Misused) => 2,
     }
 }

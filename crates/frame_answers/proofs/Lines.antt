@@ -2,13 +2,15 @@
 use mathlib.Core.Path.{◌≡◌, refl, sym, ap, subst, ◌∙◌}
 use mathlib.Core.Bool.{Bool, true, false, ◌&&◌}
 use mathlib.Core.List.{List, map}
-use mathlib.Core.Option.{Option, none, some}
 use Prim.Native.Nat.{ℕ, ◌*◌, ◌≤◌, ◌<◌}
 use native.Mathlib.Omega.{arith}
 use lib.Dec.{leb, eqb}
 use borrow.Author.Tests.{le-ltb, eq-eqb}
 use lib.IntN.{ℤ, pos}
 use lib.Ieee.{Float}
+use mir.Syntax.{w32}
+use mir.Val.{SFits, to_z, of_z}
+use mir.ValLaws.{to_z-of_z}
 use lib.ListN.{length, take, replicate, length-map, length-replicate}
 use Rattle.numbers.specs.declared.refusal.Refusal.{Refusal}
 use Rattle.numbers.specs.declared.refusal.Refusal.TheVariants.{FrameLine, FrameSize}
@@ -19,8 +21,6 @@ use Rattle.clipping_predictor_level_buffer.specs.Level.{max_samples_per_channel,
 use Rattle.clipping_predictor.specs.Predictor.{frame_fits}
 use Rattle.mono_input_volume_controller.specs.MonoState.{max_input_volume}
 use Rattle.input_volume_controller.specs.Frame.{tested_as, unless_refused, analyze_input_audio}
-use Rattle.mono_input_volume_controller.specs.declared.speech_level.SpeechLevel.{SpeechLevel}
-use Rattle.input_volume_controller.specs.declared.Analysis.{Analysis}
 use Rattle.input_volume_controller.specs.declared.Analyzed.{Analyzed}
 use Rattle.input_volume_controller.specs.declared.InputVolumeController.{InputVolumeController}
 use Rattle.input_volume_controller.specs.Controller.{Controller, view_of, Good}
@@ -29,15 +29,14 @@ use Rattle.input_volume_controller.specs.Volumes.{equal_volumes, number_set, are
 use Rattle.input_volume_controller.specs.Limits.{plain_limits, is_within}
 use Rattle.input_volume_controller.specs.Calls.{Call, frame, recommendation, step, AnalyzedOf}
 use Rattle.input_volume_controller.proofs.Whole.{control_count}
-use Rattle.frame_lines.specs.declared.answer.Reply.TheVariants.{Refused}
-use Rattle.frame_lines.specs.declared.line.Parsed.{Parsed}
-use Rattle.frame_lines.specs.declared.line.Parsed.TheVariants.{Malformed}
+use Rattle.std.specs.Prelude.{Result, Some, None, Ok, Err, Option}
+use Rattle.std.specs.Prelude as Prelude
+use Rattle.frame_lines.specs.declared.line.Frame.{Frame}
 use Rattle.frame_lines.specs.Line.{Fields, most_samples, meaning}
-use Rattle.frame_lines.specs.Parsed.{float_of, speech_level_of, parsed_of, sample_of, ParsedAs}
+use Rattle.frame_lines.specs.Parsed.{frame_of, parsed_of, sample_of, ParsedAs}
 use Rattle.frame_lines.proofs.Meanings.{FrameOf, few_samples, small_volume}
 use Rattle.frame_answers.specs.declared.answers.Answered.{Answered}
 use Rattle.frame_answers.specs.LineStep.{frame_call, recommendation_call, LineStep, refused_line, recommended_line, after_frame, meant_step, line_step}
-use Rattle.frame_answers.specs.declared.stream.Ready.{Ready}
 use Rattle.frame_answers.specs.Ready.{sized_if, ready_of}
 use Rattle.frame_answers.specs.Answered.{Leads, AnsweredAs, VolumePending, RecommendedAs, Makes, FrameAnsweredAs}
 use Rattle.input_volume_controller.proofs.SetNumbers.{equal_numbers}
@@ -46,11 +45,11 @@ use Rattle.frame_answers.proofs.Recommended.{frame_pending}
 -- ---- the definition, by the tests on the way
 
 module _ (c : Controller) (line : List ℕ) where
-  pub line_malformed : meaning line ≡ none → line_step c line ≡ refused_line (number_of FrameLine) c
+  pub line_malformed : meaning line ≡ None → line_step c line ≡ refused_line (number_of FrameLine) c
   unfolding line_step
   line_malformed e = ap (meant_step c) e
 
-  module _ (f : Fields) (e : meaning line ≡ some f) where
+  module _ (f : Fields) (e : meaning line ≡ Some f) where
     pub line_refused : (n : ℕ) → (step c (frame_call (length c.control.channels) f)).reply ≡ refusal n → line_step c line ≡ refused_line n c
     unfolding line_step
     line_refused n r = ap (meant_step c) e ∙ ap (λ (x : Reply). after_frame f c x (step c (frame_call (length c.control.channels) f)).state) r
@@ -72,7 +71,7 @@ misfits k n lent e = still_false (leb 1 n) (leb n max_samples_per_channel) (eqb 
 
 -- the numbers of a line's volume, for any count of channels
 line_numbers : (v k : ℕ) → v < 256 → numbers_of (equal_volumes (pos v) k) ≡ number_set (replicate k v)
-line_numbers v k h = equal_numbers (pos v) v k (sym (inside 0 max_input_volume (pos v) (le-ltb v 0 (omega arith)) (omega arith) (omega arith)))
+line_numbers v k h = equal_numbers (pos v) v k (sym (inside 0 max_input_volume v (omega arith) (omega arith)))
 
 unfit : (c : Controller) (v n : ℕ) (lent : List Float) → v < 256 → is_frame_size n ≡ false
     → (step c (frame plain_limits (equal_volumes (pos v) (length c.control.channels)) n lent)).reply ≡ refusal (number_of FrameSize)
@@ -90,20 +89,20 @@ leads_as s t r e h = subst (λ (x : LineStep). Leads x r) e h
 
 -- every controller refuses a line that is malformed, or whose frame has no size that can fit
 module _ (c : Controller) (line : List ℕ) (cause : Refusal) where
-  sized_if_lem : (f : Fields) → meaning line ≡ some f → (b : Bool) → is_frame_size (length f.samples) ≡ b → (p : Float) (l : SpeechLevel) → sized_if b f.volume p l (length f.samples) ≡ Ready.Refused cause
+  sized_if_lem : (f : Fields) → meaning line ≡ Some f → (b : Bool) → is_frame_size (length f.samples) ≡ b → sized_if b (frame_of f) ≡ Err cause
       → line_step c line ≡ refused_line (number_of cause) c
-  sized_if_lem f m true s p l e = let z : ◌≡◌ {A = ℕ} 0 1 = cc in absurd (omega arith)
-  sized_if_lem f m false s p l e =
+  sized_if_lem f m true s e = let z : ◌≡◌ {A = ℕ} 0 1 = cc in absurd (omega arith)
+  sized_if_lem f m false s e =
       let is : FrameSize ≡ cause = cc in
       line_refused c line f m (number_of FrameSize) (unfit c f.volume (length f.samples) (map sample_of f.samples) (small_volume line f m) s)
       ∙ ap (λ (x : Refusal). refused_line (number_of x) c) is
 
-  ready_if : (o : Option Fields) → meaning line ≡ o → ready_of (parsed_of o) ≡ Ready.Refused cause → line_step c line ≡ refused_line (number_of cause) c
-  ready_if none m e = let is : FrameLine ≡ cause = cc in line_malformed c line m ∙ ap (λ (x : Refusal). refused_line (number_of x) c) is
-  ready_if (some f) m e = sized_if_lem f m (is_frame_size (length f.samples)) refl (float_of f.probability) (speech_level_of f.level) e
+  ready_if : (o : Option Fields) → meaning line ≡ o → ready_of (parsed_of o) ≡ Err cause → line_step c line ≡ refused_line (number_of cause) c
+  ready_if None m e = let is : FrameLine ≡ cause = cc in line_malformed c line m ∙ ap (λ (x : Refusal). refused_line (number_of x) c) is
+  ready_if (Some f) m e = sized_if_lem f m (is_frame_size (length f.samples)) refl e
 
-pub refused_early : (self : InputVolumeController) (line : List ℕ) (before after : List Float) (parsed : Parsed) (cause : Refusal) → Good self → ParsedAs line before after parsed → ready_of parsed ≡ Ready.Refused cause
-    → AnsweredAs self line (record { controller = self; reply = Refused cause })
+pub refused_early : (self : InputVolumeController) (line : List ℕ) (before after : List Float) (parsed : Prelude.Option Frame) (cause : Refusal) → Good self → ParsedAs line before after parsed → ready_of parsed ≡ Err cause
+    → AnsweredAs self line (record { controller = self; reply = Err cause })
 refused_early self line before after parsed cause good p e = record {
   leads = leads_as _ _ _ (sym (ready_if (view_of self) line cause (meaning line) refl (ap ready_of (sym p.answer_is) ∙ e)))
       (record { good = good; reply = refl; view = refl });
@@ -111,39 +110,42 @@ refused_early self line before after parsed cause good p e = record {
 }
 
 -- `parse` has found a line malformed
-pub malformed_as : (self : InputVolumeController) (line : List ℕ) (before after : List Float) (parsed : Parsed) → Good self → ParsedAs line before after parsed → parsed ≡ Malformed
-    → AnsweredAs self line (record { controller = self; reply = Refused FrameLine })
+pub malformed_as : (self : InputVolumeController) (line : List ℕ) (before after : List Float) (parsed : Prelude.Option Frame) → Good self → ParsedAs line before after parsed → parsed ≡ None
+    → AnsweredAs self line (record { controller = self; reply = Err FrameLine })
 malformed_as self line before after parsed good p e = refused_early self line before after parsed FrameLine good p (ap ready_of e)
 
 -- a frame that is ready is the one that was parsed
-abbrev is_frame : Ready → Bool
-is_frame (Ready.Refused cause) = false
-is_frame (Ready.Frame v p l n) = true
+sized_ok : (b : Bool) (said ready : Frame) → sized_if b said ≡ Ok ready → said ≡ ready
+sized_ok true said ready e = cc
+sized_ok false said ready e = let z : ◌≡◌ {A = ℕ} 0 1 = cc in absurd (omega arith)
 
-frame_if : (v n : ℕ) (p : Float) (l : SpeechLevel) (r : Ready) (b : Bool) → sized_if b v p l n ≡ r → is_frame r ≡ true → Ready.Frame v p l n ≡ r
-frame_if v n p l r true e f = e
-frame_if v n p l r false e f = clash (sym (ap is_frame e ∙ f))
-
-pub was_parsed : (parsed : Parsed) (v : ℕ) (p : Float) (l : SpeechLevel) (n : ℕ) → ready_of parsed ≡ Ready.Frame v p l n → parsed ≡ Parsed.Frame v p l n
-was_parsed Parsed.Malformed v p l n e = let z : ◌≡◌ {A = ℕ} 0 1 = cc in absurd (omega arith)
-was_parsed (Parsed.Frame w q m k) v p l n e = let is = frame_if w k q m (Ready.Frame v p l n) (is_frame_size k) e refl in cc
+pub was_parsed : (parsed : Prelude.Option Frame) (ready : Frame) → ready_of parsed ≡ Ok ready → parsed ≡ Some ready
+was_parsed None ready e = let z : ◌≡◌ {A = ℕ} 0 1 = cc in absurd (omega arith)
+was_parsed (Some said) ready e = ap Some (sized_ok (is_frame_size said.count) said ready e)
 
 -- `parse` has found a line in order: its samples have room, and these are its calls
-pub few : (line : List ℕ) (after : List Float) (v : ℕ) (p : Float) (l : SpeechLevel) (n : ℕ) → FrameOf line after v p l n → n ≤ most_samples
-few line after v p l n f = omega (arith, f.count_is, few_samples line f.meant f.means)
+pub few : (line : List ℕ) (after : List Float) (said : Frame) → FrameOf line after said → said.count ≤ most_samples
+few line after said f = omega (arith, ap (λ (x : Frame). x.count) f.is, few_samples line f.meant f.means)
 
-pub makes_calls : (channels : ℕ) (line : List ℕ) (after : List Float) (v : ℕ) (p : Float) (l : SpeechLevel) (n : ℕ) → FrameOf line after v p l n
-    → Makes channels line (frame plain_limits (equal_volumes (pos v) channels) (length (take n after)) (take n after)) (recommendation p l)
-makes_calls channels line after v p l n f =
-    let count : length (take n after) ≡ length f.meant.samples = ap length f.samples_are ∙ length-map f.meant.samples sample_of in
+pub makes_calls : (channels : ℕ) (line : List ℕ) (after : List Float) (said : Frame) → FrameOf line after said
+    → Makes channels line (frame plain_limits (equal_volumes (pos said.volume) channels) (length (take said.count after)) (take said.count after)) (recommendation said.probability said.level)
+makes_calls channels line after said f =
+    let count : length (take said.count after) ≡ length f.meant.samples = ap length f.samples_are ∙ length-map f.meant.samples sample_of in
     record {
       meant = f.meant;
       means = f.means;
-      frame_is = λ i. frame plain_limits (equal_volumes (pos (f.volume_is i)) channels) (count i) (f.samples_are i);
-      recommendation_is = λ i. recommendation (f.probability_is i) (f.level_is i);
+      frame_is = λ i. frame plain_limits (equal_volumes (pos (f.is i).volume) channels) (count i) (f.samples_are i);
+      recommendation_is = λ i. recommendation (f.is i).probability (f.is i).level;
     }
 
-module _ (self : InputVolumeController) (z : ℤ) (n : ℕ) (lent : List Float) (a : Analyzed) (h : AnalyzedOf plain_limits self z n lent a) (p : Float) (l : SpeechLevel) where
+-- what a frame's call says, with the volume as it came
+pub heard_as : (self : InputVolumeController) (v n : ℕ) (lent : List Float) (a : Analyzed) (z : ℤ) → v < 256 → z ≡ pos v → AnalyzedOf plain_limits self (to_z w32 (of_z w32 z)) n lent a
+    → AnalyzedOf plain_limits self (pos v) n lent a
+heard_as self v n lent a z h e d =
+    let fits : SFits w32 (pos v) = record { sfits = omega arith } in
+    subst (λ (x : ℤ). AnalyzedOf plain_limits self x n lent a) (ap (λ (x : ℤ). to_z w32 (of_z w32 x)) e ∙ to_z-of_z w32 (pos v) fits) d
+
+module _ (self : InputVolumeController) (z : ℤ) (n : ℕ) (lent : List Float) (a : Analyzed) (h : AnalyzedOf plain_limits self z n lent a) (p : Float) (l : Option Float) where
   abbrev channels : ℕ
   channels = self.control.channels.count
 
@@ -155,20 +157,20 @@ module _ (self : InputVolumeController) (z : ℤ) (n : ℕ) (lent : List Float) 
     unfolding view_of
     call_is = m.frame_is ∙ ap (λ (k : ℕ). frame_call k m.meant) (sym (control_count self.control))
 
-    says : (answer : Analysis) → a.answer ≡ answer → (step (view_of self) (frame_call (length (view_of self).control.channels) m.meant)).reply ≡ analysis_says answer
+    says : (answer : Result Bool Refusal) → a.answer ≡ answer → (step (view_of self) (frame_call (length (view_of self).control.channels) m.meant)).reply ≡ analysis_says answer
     says answer q = sym (sym (ap analysis_says q) ∙ h.does.reply ∙ ap (λ (x : Call). (step (view_of self) x).reply) call_is)
 
     state_is : view_of a.controller ≡ (step (view_of self) (frame_call (length (view_of self).control.channels) m.meant)).state
     state_is = h.does.view ∙ ap (λ (x : Call). (step (view_of self) x).state) call_is
 
-  pub refused_as : (cause : Refusal) → a.answer ≡ Analysis.Refused cause → FrameAnsweredAs self heard (recommendation p l) (record { controller = a.controller; reply = Refused cause })
+  pub refused_as : (cause : Refusal) → a.answer ≡ Err cause → FrameAnsweredAs self heard (recommendation p l) (record { controller = a.controller; reply = Err cause })
   refused_as cause q line m = record {
-    leads = leads_as _ _ _ (sym (line_refused (view_of self) line m.meant m.means (number_of cause) (says line m (Analysis.Refused cause) q)))
+    leads = leads_as _ _ _ (sym (line_refused (view_of self) line m.meant m.means (number_of cause) (says line m (Err cause) q)))
         (record { good = h.does.good; reply = refl; view = ap view_of (h.same cause q) });
     same = λ other r. h.same cause q;
   }
 
-  module _ (near : Bool) (q : a.answer ≡ Analysis.Accepted near) where
+  module _ (near : Bool) (q : a.answer ≡ Ok near) where
     pub pending_after : VolumePending (view_of a.controller)
     pending_after =
         subst VolumePending (sym h.does.view)
@@ -178,7 +180,7 @@ module _ (self : InputVolumeController) (z : ℤ) (n : ℕ) (lent : List Float) 
     accepted_as r d line m = record {
       leads = leads_as _ _ r
           ((λ i. recommended_line near (step (state_is line m i) (m.recommendation_is i)))
-          ∙ sym (line_marked (view_of self) line m.meant m.means near (says line m (Analysis.Accepted near) q)))
+          ∙ sym (line_marked (view_of self) line m.meant m.means near (says line m (Ok near) q)))
           d.leads;
       same = λ cause x. absurd (d.accepted cause x);
     }

@@ -8,12 +8,10 @@ use lib.Dec.{ltb}
 use lib.IntN.{ℤ, pos}
 use lib.Ieee.{Float, lt}
 use lib.ListN.{length}
-use Rattle.numbers.specs.declared.refusal.Outcome.{Outcome}
-use Rattle.numbers.specs.declared.refusal.Outcome.TheVariants.{Accepted, Refused}
+use Rattle.std.specs.Prelude.{Err, Ok, Option, Result, Some}
+use Rattle.numbers.specs.declared.refusal.Refusal.{Refusal}
 use Rattle.clipping_predictor.specs.Predictor.{entered_if}
-use Rattle.mono_input_volume_controller.specs.declared.speech_level.SpeechLevel.{SpeechLevel}
 use Rattle.mono_input_volume_controller.specs.MonoState.{max_input_volume}
-use Rattle.input_volume_controller.specs.declared.Applied.TheVariants as Applied
 use Rattle.input_volume_controller.specs.declared.InputVolumeController.{InputVolumeController}
 use Rattle.input_volume_controller.specs.Control.{control_of}
 use Rattle.input_volume_controller.specs.ControlCalls.{aggregated, with_applied_input_volumes, lower_channels, process_channels}
@@ -64,9 +62,9 @@ used_tells true samples lent c =
     record { reply_is = w.reply_is; applied_is = w.applied_is }
 used_tells false samples lent c = record { reply_is = refl; applied_is = refl }
 
-refused_reply : (o : Outcome) (v : List ℕ) (samples : ℕ) (lent : List Float) (c : Controller) → is_frame_reply (unless_refused o v samples lent c).reply ≡ true
-refused_reply (Refused cause) v samples lent c = refl
-refused_reply Accepted v samples lent c = (used_tells c.control.used samples lent (with_volumes_applied v c)).reply_is
+refused_reply : (o : Result (Unit {0}) Refusal) (v : List ℕ) (samples : ℕ) (lent : List Float) (c : Controller) → is_frame_reply (unless_refused o v samples lent c).reply ≡ true
+refused_reply (Err cause) v samples lent c = refl
+refused_reply (Ok tt) v samples lent c = (used_tells c.control.used samples lent (with_volumes_applied v c)).reply_is
 
 pub frame_reply : (c : Controller) (most : Limits) (z : List ℤ) (samples : ℕ) (lent : List Float) → is_frame_reply (step c (frame most z samples lent)).reply ≡ true
 unfolding analyze_input_audio
@@ -74,7 +72,7 @@ frame_reply c most z samples lent = refused_reply (frame_outcome most (length c.
 
 -- ---- an accepted frame's volume is pending
 
-applies : (v : List ℕ) (c : Controller) → (with_volumes_applied v c).control.applied ≡ Applied.Volume (lowest_of v)
+applies : (v : List ℕ) (c : Controller) → (with_volumes_applied v c).control.applied ≡ Some (lowest_of v)
 unfolding with_applied_input_volumes aggregated
 applies v c = refl
 
@@ -88,9 +86,9 @@ module _ (c : Controller) (most : Limits) (z : List ℤ) (samples : ℕ) (lent :
   abbrev volumes : List ℕ
   volumes = numbers_in (numbers_of z)
 
-  pending_if : (o : Outcome) → (unless_refused o volumes samples lent c).reply ≡ mark near → VolumePending (unless_refused o volumes samples lent c).state
-  pending_if (Refused cause) e = let x : ◌≡◌ {A = ℕ} 0 1 = cc in absurd (omega arith)
-  pending_if Accepted e = record {
+  pending_if : (o : Result (Unit {0}) Refusal) → (unless_refused o volumes samples lent c).reply ≡ mark near → VolumePending (unless_refused o volumes samples lent c).state
+  pending_if (Err cause) e = let x : ◌≡◌ {A = ℕ} 0 1 = cc in absurd (omega arith)
+  pending_if (Ok tt) e = record {
     applied = lowest_of volumes;
     pending = (used_tells c.control.used samples lent (with_volumes_applied volumes c)).applied_is ∙ applies volumes c;
     most = lowest_in z (numbers_of z) refl;
@@ -106,12 +104,12 @@ pub record IsVolume (r : Reply) : Type 0 where
   pub shown : ℕ
   pub is : r ≡ volume (pos shown)
 
-volume_if : (c : Controller) (p : Float) (l : SpeechLevel) → VolumePending c → (used : Bool) → c.control.used ≡ used → IsVolume (step c (recommendation p l)).reply
+volume_if : (c : Controller) (p : Float) (l : Option Float) → VolumePending c → (used : Bool) → c.control.used ≡ used → IsVolume (step c (recommendation p l)).reply
 volume_if c p l v true u = record { shown = _; is = ap (λ (s : Stepped). s.reply) (recommend_on c p l v.applied v.pending u) }
 volume_if c p l v false u = record { shown = _; is = ap (λ (s : Stepped). s.reply) (recommend_off c p l v.applied v.pending u) }
 
 -- THE CLAIM: right after an accepted frame the recommendation is a volume, never none
-pub recommends_volume : (c : Controller) (most : Limits) (z : List ℤ) (samples : ℕ) (lent : List Float) (near : Bool) (p : Float) (l : SpeechLevel)
+pub recommends_volume : (c : Controller) (most : Limits) (z : List ℤ) (samples : ℕ) (lent : List Float) (near : Bool) (p : Float) (l : Option Float)
     → (step c (frame most z samples lent)).reply ≡ mark near → IsVolume (step (step c (frame most z samples lent)).state (recommendation p l)).reply
 recommends_volume c most z samples lent near p l e =
     let after = (step c (frame most z samples lent)).state in
@@ -123,7 +121,7 @@ pub record AtMost (says : Reply) : Type 0 where
   pub is : says ≡ volume (pos shown)
   pub most : shown ≤ max_input_volume
 
-module _ (self r : InputVolumeController) (p : Float) (l : SpeechLevel) (says : Reply) (does : Does self (recommendation p l) says r) (v : VolumePending (view_of self)) where
+module _ (self r : InputVolumeController) (p : Float) (l : Option Float) (says : Reply) (does : Does self (recommendation p l) says r) (v : VolumePending (view_of self)) where
   volume_of : r.control.volume ≡ (view_of r).control.volume
   unfolding view_of control_of
   volume_of = refl

@@ -2,42 +2,40 @@
 use mathlib.Core.Path.{◌≡◌, refl, sym, ap, subst, ◌∙◌}
 use mathlib.Core.Bool.{Bool, true, false}
 use mathlib.Core.List.{List, [], ◌∷◌, ◌++◌, append_assoc, append-nil}
-use mathlib.Core.Option.{Option, none, some}
 use Prim.Native.Nat.{ℕ, suc, ◌+◌, ◌-◌, ◌*◌, ◌/◌, ◌≤◌, ◌<◌}
 use native.Mathlib.Omega.{arith}
 use lib.Dec.{ltb}
 use lib.ListN.{length, take, drop, length-append, length-drop, take-append-drop}
-use lib.Seq.{take_all, take-length, length-take-le, take-append_seam, drop-append-add, drop-drop, take-add, paste}
-use Rattle.frame_lines.specs.declared.answer.Text.{Text}
-use Rattle.frame_lines.specs.declared.answer.Reply.{Reply}
-use Rattle.frame_lines.specs.declared.lines.Feed.TheVariants.{At, Nowhere}
-use Rattle.frame_lines.specs.Answer.{longest, number_text, decimal, answer_of, held}
+use lib.Seq.{take_all, take-length, length-take-le, drop-drop, take-add, paste}
+use Rattle.std.specs.Prelude.{Some, None, Ok, Err, Option}
+use Rattle.frame_lines.specs.Answer.{Reply, longest, number_text, decimal, answer_of, laid, PutAs}
 use Rattle.frame_lines.specs.Lines.{is_feed}
-use Rattle.frame_lines.specs.Stream.{kept_characters, cut, ended_if, ended, begun_if, begun}
-use Rattle.frame_lines.specs.Feeds.{feed_if, first_feed, feed_from, kept}
-use Rattle.frame_lines.specs.declared.answer.Reply.TheVariants.{Volume, Refused}
-use Rattle.frame_lines.proofs.Answers.{Fitting, number_fits, answer_fits, held_text}
-use Rattle.frame_lines.proofs.Feeding.{found_if, lost_if, line_found, no_line_ends}
+use Rattle.frame_lines.specs.Stream.{kept_characters, cut, ended, begun}
+use Rattle.frame_lines.specs.Search.{here_if, first_of, place_of, line_feed_from}
+use Rattle.frame_lines.specs.Feeds.{kept}
+use Rattle.frame_lines.proofs.Answers.{Fitting, number_fits, answer_fits, put_behind, had_room}
+use Rattle.frame_lines.proofs.Searching.{found_if, lost_if}
+use Rattle.frame_lines.proofs.FeedPlaces.{FirstLine, first_line, line_found, no_line_ends}
 use Rattle.frame_lines.proofs.Pieces.{joined, begun_after, ended_after, begun_after_lem, begun_all}
 use Rattle.frame_answers.specs.declared.stream.Stream.{Stream}
 use Rattle.frame_answers.specs.declared.stream.Ended.{Ended}
 use Rattle.frame_answers.specs.LineStep.{Answer, recommended, refused}
 use Rattle.frame_answers.specs.Texts.{text_of, after_lines, text_of_lines}
 use Rattle.frame_answers.specs.Answered.{reply_says}
-use Rattle.frame_answers.specs.Stream.{State, view_of, Good, Becomes, text_of_piece, after_piece, room_behind, up_to, used_of, laid, line_ended, EndedAs, FedAs}
+use Rattle.frame_answers.specs.Stream.{State, view_of, Good, Becomes, text_of_piece, after_piece, room_behind, up_to, used_of, line_ended, EndedAs, FedAs}
 use Rattle.frame_answers.proofs.InTwo.{text_two, after_two, text_none}
 
 -- ---- an answer has at most five bytes
 
 pub text_fits : (a : Answer) → Fitting (text_of a)
 unfolding text_of answer_of number_text decimal
-text_fits (recommended volume near) = answer_fits (Volume volume near)
+text_fits (recommended volume near) = answer_fits (Ok (record { volume = volume; near = near }))
 text_fits (refused n) = number_fits (ltb n 10) n
 
 pub says_text : (reply : Reply) → answer_of reply ≡ text_of (reply_says reply)
 unfolding answer_of text_of
-says_text (Volume volume near) = refl
-says_text (Refused cause) = refl
+says_text (Ok r) = refl
+says_text (Err cause) = refl
 
 -- ---- a stream in good order that nothing is fed
 
@@ -53,70 +51,52 @@ module _ (s : Stream) (good : Good s) where
       let b : cut (begun (k ++ [])) ≡ k = ap (λ (l : List ℕ). cut (begun l)) (append-nil k) ∙ ap cut (begun_all k good.unended) ∙ all_kept in
       λ i. record { controller = after_lines (view_of s).controller (e i); kept = b i }
 
--- ---- the first line of a text, with its line feed
+-- ---- what is used of a text
 
-record FirstLine (text : List ℕ) (n : ℕ) : Type 0 where
-  line : ended (take (suc n) text) ≡ take n text ∷ []
-  begins : begun (take (suc n) text) ≡ []
-  room : (m : ℕ) → up_to text (suc m) ≡ take (suc n) text ++ up_to (drop (suc n) text) m
+-- with room for one answer more its first line is used, and what is used of the rest
+first_used_if : (b : ℕ) (text : List ℕ) (n m : ℕ) (t : Bool) (o : Option ℕ) → is_feed b ≡ t → first_of 10 text ≡ o
+    → ((k : ℕ) → first_of 10 text ≡ Some k → up_to text (suc m) ≡ take (suc k) text ++ up_to (drop (suc k) text) m) → here_if t o ≡ Some n
+    → up_to (b ∷ text) (suc m) ≡ take (suc n) (b ∷ text) ++ up_to (drop (suc n) (b ∷ text)) m
+unfolding up_to
+first_used_if b text n m true o p q f e =
+    let k : 0 ≡ n = cc in
+    subst (λ (i : ℕ). up_to (b ∷ text) (suc m) ≡ take (suc i) (b ∷ text) ++ up_to (drop (suc i) (b ∷ text)) m) k (ap (λ (t : Bool). b ∷ up_to text (room_behind t m)) p)
+first_used_if b text n m false None p q f e = let z : ◌≡◌ {A = ℕ} 0 1 = cc in absurd (omega arith)
+first_used_if b text n m false (Some k) p q f e =
+    let i : suc k ≡ n = cc in
+    subst (λ (i : ℕ). up_to (b ∷ text) (suc m) ≡ take (suc i) (b ∷ text) ++ up_to (drop (suc i) (b ∷ text)) m) i (ap (λ (t : Bool). b ∷ up_to text (room_behind t m)) p ∙ ap (λ (l : List ℕ). b ∷ l) (f k q))
 
-this_line : (b : ℕ) (text : List ℕ) → is_feed b ≡ true → FirstLine (b ∷ text) 0
-unfolding ended begun up_to
-this_line b text e = record {
-  line = λ i. ended_if (e i) b [];
-  begins = λ i. begun_if (e i) b [] [];
-  room = λ m. ap (λ (t : Bool). b ∷ up_to text (room_behind t m)) e;
-}
-
-later_line : (b : ℕ) (text : List ℕ) (n : ℕ) → is_feed b ≡ false → FirstLine text n → FirstLine (b ∷ text) (suc n)
-unfolding ended begun up_to
-later_line b text n e f = record {
-  line = λ i. ended_if (e i) b (f.line i);
-  begins = λ i. begun_if (e i) b (f.line i) (f.begins i);
-  room = λ m. ap (λ (t : Bool). b ∷ up_to text (room_behind t m)) e ∙ ap (λ (l : List ℕ). b ∷ l) (f.room m);
-}
-
-first_if_lem : (b : ℕ) (text : List ℕ) (n : ℕ) (t : Bool) (o : Option ℕ) → is_feed b ≡ t → first_feed text ≡ o → ((m : ℕ) → first_feed text ≡ some m → FirstLine text m)
-    → feed_if t o ≡ some n → FirstLine (b ∷ text) n
-first_if_lem b text n true o p q f e = let k : 0 ≡ n = cc in subst (FirstLine (b ∷ text)) k (this_line b text p)
-first_if_lem b text n false none p q f e = let z : ◌≡◌ {A = ℕ} 0 1 = cc in absurd (omega arith)
-first_if_lem b text n false (some m) p q f e = let k : suc m ≡ n = cc in subst (FirstLine (b ∷ text)) k (later_line b text m p (f m q))
-
-first_line : (text : List ℕ) (n : ℕ) → first_feed text ≡ some n → FirstLine text n
-unfolding first_feed
-first_line [] n e = let z : ◌≡◌ {A = ℕ} 0 1 = cc in absurd (omega arith)
-first_line (b ∷ text) n e = first_if_lem b text n (is_feed b) (first_feed text) refl refl (first_line text) e
+first_used : (text : List ℕ) (n m : ℕ) → first_of 10 text ≡ Some n → up_to text (suc m) ≡ take (suc n) text ++ up_to (drop (suc n) text) m
+unfolding first_of
+first_used [] n m e = let z : ◌≡◌ {A = ℕ} 0 1 = cc in absurd (omega arith)
+first_used (b ∷ text) n m e = first_used_if b text n m (is_feed b) (first_of 10 text) refl refl (λ k. first_used text k m) e
 
 -- a text without a line feed is used whole
-whole_if : (b : ℕ) (text : List ℕ) (m : ℕ) (t : Bool) (o : Option ℕ) → is_feed b ≡ t → first_feed text ≡ o → ((n : ℕ) → first_feed text ≡ none → up_to text (suc n) ≡ text)
-    → feed_if t o ≡ none → up_to (b ∷ text) (suc m) ≡ b ∷ text
+whole_if : (b : ℕ) (text : List ℕ) (m : ℕ) (t : Bool) (o : Option ℕ) → is_feed b ≡ t → first_of 10 text ≡ o → ((n : ℕ) → first_of 10 text ≡ None → up_to text (suc n) ≡ text)
+    → here_if t o ≡ None → up_to (b ∷ text) (suc m) ≡ b ∷ text
 unfolding up_to
 whole_if b text m true o p q f e = let z : ◌≡◌ {A = ℕ} 0 1 = cc in absurd (omega arith)
-whole_if b text m false none p q f e = ap (λ (t : Bool). b ∷ up_to text (room_behind t m)) p ∙ ap (λ (l : List ℕ). b ∷ l) (f m q)
-whole_if b text m false (some n) p q f e = let z : ◌≡◌ {A = ℕ} 0 1 = cc in absurd (omega arith)
+whole_if b text m false None p q f e = ap (λ (t : Bool). b ∷ up_to text (room_behind t m)) p ∙ ap (λ (l : List ℕ). b ∷ l) (f m q)
+whole_if b text m false (Some n) p q f e = let z : ◌≡◌ {A = ℕ} 0 1 = cc in absurd (omega arith)
 
-used_whole : (text : List ℕ) (m : ℕ) → first_feed text ≡ none → up_to text (suc m) ≡ text
-unfolding first_feed up_to
+used_whole : (text : List ℕ) (m : ℕ) → first_of 10 text ≡ None → up_to text (suc m) ≡ text
+unfolding first_of up_to
 used_whole [] m e = refl
-used_whole (b ∷ text) m e = whole_if b text m (is_feed b) (first_feed text) refl refl (used_whole text) e
+used_whole (b ∷ text) m e = whole_if b text m (is_feed b) (first_of 10 text) refl refl (used_whole text) e
 
 used_none : (text : List ℕ) → up_to text 0 ≡ []
 unfolding up_to
 used_none [] = refl
 used_none (b ∷ text) = refl
 
--- what lies behind a place is all that is left
-pub to_end : (at : ℕ) (text : List ℕ) → take (length text - at) (drop at text) ≡ drop at text
-to_end at text = take_all (length text - at) (drop at text) (omega (arith, length-drop at text))
-
 -- ---- a turn: the stream is fed the rest of a line with its line feed
 
 module _ (s : State) (u : ended s.kept ≡ []) (text : List ℕ) (n : ℕ) (f : FirstLine text n) where
   line_ends : ended (s.kept ++ take (suc n) text) ≡ (s.kept ++ take n text) ∷ []
-  line_ends = ended_after s.kept (take (suc n) text) u ∙ ap (joined s.kept) f.line
+  line_ends = ended_after s.kept (take (suc n) text) u ∙ ap (joined s.kept) f.alone
 
   none_begins : begun (s.kept ++ take (suc n) text) ≡ []
-  none_begins = begun_after_lem s.kept (take (suc n) text) u ∙ (λ i. begun_after s.kept (f.line i) (f.begins i))
+  none_begins = begun_after_lem s.kept (take (suc n) text) u ∙ (λ i. begun_after s.kept (f.alone i) (f.clears i))
 
   line_text : text_of_piece s (take (suc n) text) ≡ text_of (line_ended s (take n text)).answer
   unfolding text_of_piece text_of_lines
@@ -125,20 +105,6 @@ module _ (s : State) (u : ended s.kept ≡ []) (text : List ℕ) (n : ℕ) (f : 
   line_after : after_piece s (take (suc n) text) ≡ record { controller = (line_ended s (take n text)).state; kept = [] }
   unfolding after_piece after_lines
   line_after = λ i. record { controller = after_lines s.controller (line_ends i); kept = cut (none_begins i) }
-
--- ---- the text that was put
-
--- a text that is held
-pub put_held : (out : List ℕ) (at : ℕ) (x : List ℕ) (t : Text) → t ≡ held x → paste out at t.bytes t.length ≡ paste out at x (length x)
-put_held out at x t e =
-    ap (λ (u : Text). paste out at u.bytes u.length) e
-    ∙ (λ i. (take at out ++ (held_text x ∙ sym (take-length x)) i) ++ drop (at + length x) out)
-
-put_behind : (t x out₀ out : List ℕ) → out ≡ laid t out₀ → paste out (length t) x (length x) ≡ laid (t ++ x) out₀
-put_behind t x out₀ out e =
-    ap (λ (o : List ℕ). paste o (length t) x (length x)) e
-    ∙ (λ i. (take-append_seam t (drop (length t) out₀) i ++ take-length x i) ++ (drop-append-add t (drop (length t) out₀) (length x) ∙ drop-drop (length x) (length t) out₀) i)
-    ∙ ap (λ (m : ℕ). (t ++ x) ++ drop m out₀) (sym (length-append t x))
 
 -- ---- what holds at each turn
 
@@ -168,17 +134,20 @@ module _ (piece out₀ : List ℕ) where
         let o : length out ≡ length t + length (drop (length t) out₀) = ap length h.out_is ∙ length-append t (drop (length t) out₀) in
         omega (arith, h.fits, h.written_is, length-drop (length t) out₀)
 
-    pub reply_room : 0 < room → written + longest ≤ length out
+    reply_room : 0 < room → written + longest ≤ length out
     reply_room more = omega (arith, h.fits, out_length)
 
     -- room is left and a line feed was found at e
-    module _ (e : ℕ) (found : feed_from piece at ≡ At e) (more : 0 < room) where
+    module _ (e : ℕ) (found : line_feed_from piece at ≡ Some e) (more : 0 < room) where
       abbrev n : ℕ
       n = e - at
 
+      first_is : first_of 10 (drop at piece) ≡ Some n
+      unfolding place_of
+      first_is = found_if at e (first_of 10 (drop at piece)) found
+
       first : FirstLine (drop at piece) n
-      unfolding feed_from
-      first = first_line (drop at piece) (e - at) (found_if at e (first_feed (drop at piece)) found)
+      first = first_line (drop at piece) n first_is
 
       pub found_at : (at ≤ e) × (e < length piece)
       found_at = let f = line_found (kept s.begun) piece at h.becomes.good.unended e found in (f.least, f.within)
@@ -215,7 +184,7 @@ module _ (piece out₀ : List ℕ) where
           let k : room ≡ suc (room - 1) = omega arith in
           h.used
           ∙ ap (λ (m : ℕ). take at piece ++ up_to (drop at piece) m) k
-          ∙ ap (λ (l : List ℕ). take at piece ++ l) (first.room (room - 1))
+          ∙ ap (λ (l : List ℕ). take at piece ++ l) (first_used (drop at piece) n (room - 1) first_is)
           ∙ sym (append_assoc (take at piece) (take (suc n) (drop at piece)) (up_to (drop (suc n) (drop at piece)) (room - 1)))
           ∙ (λ i. sym next i ++ up_to (rest i) (room - 1))
 
@@ -223,20 +192,21 @@ module _ (piece out₀ : List ℕ) where
         text_is : answer_of r.reply ≡ answered
         text_is = says_text r.reply ∙ ap text_of ends.reply
 
-        pub goes_on : (w : ℕ) (o : List ℕ) → (w ≡ written + length (answer_of r.reply)) × (o ≡ paste out written (answer_of r.reply) (length (answer_of r.reply)))
-            → SoFar self piece out₀ r.stream (e + 1) w (room - 1) o
-        goes_on w o put = record {
-          within = omega (arith, found_at.1);
-          becomes = record { good = ends.stream.good; is = ends.stream.is ∙ sym after_next };
-          written_is = put.0 ∙ (λ i. h.written_is i + length (text_is i)) ∙ sym (length-append (text_of_piece self (take at piece)) answered) ∙ ap length (sym text_next);
-          out_is =
-              put.1
-              ∙ (λ i. paste out (h.written_is i) (text_is i) (length (text_is i)))
-              ∙ put_behind (text_of_piece self (take at piece)) answered out₀ out h.out_is
-              ∙ ap (λ (t : List ℕ). laid t out₀) (sym text_next);
-          fits = omega (arith, put.0, ap length text_is, (text_fits (line_ended (view_of s) part).answer).within, h.fits);
-          used = used_next;
-        }
+        pub goes_on : (w : ℕ) (o : List ℕ) → PutAs (answer_of r.reply) written out o w → SoFar self piece out₀ r.stream (e + 1) w (room - 1) o
+        goes_on w o p =
+            let put = had_room (answer_of r.reply) written out o w (reply_room more) p in
+            record {
+              within = omega (arith, found_at.1);
+              becomes = record { good = ends.stream.good; is = ends.stream.is ∙ sym after_next };
+              written_is = put.0 ∙ (λ i. h.written_is i + length (text_is i)) ∙ sym (length-append (text_of_piece self (take at piece)) answered) ∙ ap length (sym text_next);
+              out_is =
+                  put.1
+                  ∙ (λ i. paste out (h.written_is i) (text_is i) (length (text_is i)))
+                  ∙ put_behind (text_of_piece self (take at piece)) answered out₀ out h.out_is
+                  ∙ ap (λ (t : List ℕ). laid t out₀) (sym text_next);
+              fits = omega (arith, put.0, ap length text_is, (text_fits (line_ended (view_of s) part).answer).within, h.fits);
+              used = used_next;
+            }
 
     -- what is used is the piece up to a place, and no line ends behind it
     leaves : (end : ℕ) (r : Stream) → used_of out₀ piece ≡ take end piece → end ≤ length piece → text_of_piece self (take end piece) ≡ text_of_piece self (take at piece) → Becomes (after_piece self (take end piece)) r
@@ -255,7 +225,7 @@ module _ (piece out₀ : List ℕ) where
         h.within refl h.becomes
 
     -- no line feed was found: what is left is kept
-    module _ (lost : feed_from piece at ≡ Nowhere) (more : 0 < room) where
+    module _ (lost : line_feed_from piece at ≡ None) (more : 0 < room) where
       pub none_ends : ended (kept s.begun ++ drop at piece) ≡ []
       none_ends = no_line_ends (kept s.begun) piece at h.becomes.good.unended lost
 
@@ -280,12 +250,12 @@ module _ (piece out₀ : List ℕ) where
           ∙ ap (after_piece self) (sym all)
 
       used_all : used_of out₀ piece ≡ take (length piece) piece
-      unfolding feed_from
+      unfolding place_of
       used_all =
           let k : room ≡ suc (room - 1) = omega arith in
           h.used
           ∙ ap (λ (m : ℕ). take at piece ++ up_to (drop at piece) m) k
-          ∙ ap (λ (l : List ℕ). take at piece ++ l) (used_whole (drop at piece) (room - 1) (lost_if at (first_feed (drop at piece)) lost))
+          ∙ ap (λ (l : List ℕ). take at piece ++ l) (used_whole (drop at piece) (room - 1) (lost_if at (first_of 10 (drop at piece)) lost))
           ∙ sym all
 
       pub ends_piece : (r : Stream) → Becomes (after_piece (view_of s) (drop at piece)) r → FedAs self piece out₀ out (record { stream = r; used = length piece; written = written })

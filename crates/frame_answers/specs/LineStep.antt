@@ -1,6 +1,5 @@
 -- Document 01, "The frame-line program": what a line does with a controller, and what it answers. A line is a frame call and, where that is accepted, the recommendation that follows it. Definitions only.
-use Rattle.std.specs.Prelude.{Bool, List, map, ℕ, pos, nat_abs, length}
-use Rattle.std.proofs.Math.Option.{Option, none, some}
+use Rattle.std.specs.Prelude.{Bool, List, map, ℕ, pos, nat_abs, length, Option, None, Some}
 use Rattle.numbers.specs.declared.refusal.Refusal.TheVariants.{FrameLine}
 use Rattle.numbers.specs.Refusal.{number_of}
 use Rattle.input_volume_controller.specs.Controller.{Controller}
@@ -58,8 +57,8 @@ after_frame f c done heard = refused_line 0 c
 
 -- by what it means: cause 12 is "malformed frame line"
 abbrev pub meant_step : Controller → Option Fields → LineStep
-meant_step c none = refused_line (number_of FrameLine) c
-meant_step c (some f) = after_frame f c (step c (frame_call (length c.control.channels) f)).reply (step c (frame_call (length c.control.channels) f)).state
+meant_step c None = refused_line (number_of FrameLine) c
+meant_step c (Some f) = after_frame f c (step c (frame_call (length c.control.channels) f)).reply (step c (frame_call (length c.control.channels) f)).state
 
 unfoldable pub line_step : Controller → List ℕ → LineStep
 line_step c line = meant_step c (meaning line)

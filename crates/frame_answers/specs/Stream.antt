@@ -1,9 +1,9 @@
 -- The answers to a stream that comes in pieces of any size. That pieces give what the whole text gives is proofs/Whole.antt. Definitions only.
-use Rattle.std.specs.Prelude.{◌≡◌, Bool, true, false, List, [], ◌∷◌, ◌++◌, ℕ, zero, suc, ◌/◌, length, take, drop}
+use Rattle.std.specs.Prelude.{◌≡◌, Bool, true, false, List, [], ◌∷◌, ◌++◌, ℕ, zero, suc, ◌/◌, length, take}
 use Rattle.input_volume_controller.specs.Controller.{Controller}
 use Rattle.input_volume_controller.specs.Controller as Controller
 use Rattle.frame_lines.specs.declared.answer.Text.{Text}
-use Rattle.frame_lines.specs.Answer.{longest, held}
+use Rattle.frame_lines.specs.Answer.{longest, held, laid}
 use Rattle.frame_lines.specs.Lines.{is_feed}
 use Rattle.frame_lines.specs.Stream.{cut, ended, begun, last_line}
 use Rattle.frame_lines.specs.Feeds.{kept}
@@ -81,10 +81,6 @@ abbrev pub used_of : List ℕ → List ℕ → List ℕ
 used_of out piece = up_to piece (room_in (length out))
 
 -- ---- what the contracts of `stream` say
-
--- a text at the beginning of a slice
-abbrev pub laid : List ℕ → List ℕ → List ℕ
-laid text out = text ++ drop (length text) out
 
 pub record FedAs (self : State) (piece before after : List ℕ) (r : Fed) : Type 0 where
   pub stream : Becomes (after_piece self (used_of before piece)) r.stream

@@ -6,10 +6,9 @@ ghost use Rattle.input_volume_controller.specs.Limits.{plain_limits};
 ghost use Rattle.input_volume_controller.specs.Calls.{frame, recommendation};
 ghost use Rattle.frame_answers.specs.Answered.{RecommendedAs, FrameAnsweredAs, AnsweredAs, VolumePending};
 
-use frame_lines::answer::Reply;
-use frame_lines::line::{MOST_SAMPLES, Parsed, parse};
-use input_volume_controller::{Analysis, InputVolumeController, Recommendation};
-use mono_input_volume_controller::speech_level::SpeechLevel;
+use frame_lines::answer::{Recommended, Reply};
+use frame_lines::line::{Frame, MOST_SAMPLES, parse};
+use input_volume_controller::InputVolumeController;
 use numbers::refusal::Refusal;
 
 // What a line is answered, and the controller after it.
@@ -24,7 +23,7 @@ fn recommended(
     controller: InputVolumeController,
     near: bool,
     probability: f32,
-    level: SpeechLevel,
+    level: Option<f32>,
 ) -> Answered
     requires { Good controller × VolumePending (view_of controller) }
     ensures { RecommendedAs controller near probability level result }
@@ -32,38 +31,39 @@ fn recommended(
     let done = controller.recommend_input_volume(probability, level);
     let answer = done.answer;
     let next = done.controller;
-    let Recommendation::Volume(volume) = answer else {
+    let Some(volume) = answer else {
         return Answered {
             controller: next,
-            reply: Reply::Volume(0, near),
+            reply: Ok(Recommended { volume: 0, near }),
         };
     };
     Answered {
         controller: next,
-        reply: Reply::Volume(numbers::sign::size(volume) as u8, near),
+        reply: Ok(Recommended {
+            volume: volume.unsigned_abs() as u8,
+            near,
+        }),
     }
 }
 
 // The frame of a line, and the recommendation that follows. It gets what was parsed, so that the controller is handed over for a line in order alone.
 pub(crate) fn answer_frame(
     controller: InputVolumeController,
-    volume: u8,
-    probability: f32,
-    level: SpeechLevel,
+    parsed: Frame,
     samples: &[f32],
 ) -> Answered
     requires { Good controller }
-    ensures { FrameAnsweredAs controller (frame plain_limits (equal_volumes (pos volume) controller.control.channels.count) (length samples.now) samples.now) (recommendation probability level) result }
+    ensures { FrameAnsweredAs controller (frame plain_limits (equal_volumes (pos parsed.volume) controller.control.channels.count) (length samples.now) samples.now) (recommendation parsed.probability parsed.level) result }
 {
-    let heard = controller.analyze_input_audio(volume as i32, samples.len(), samples);
+    let heard = controller.analyze_input_audio(i32::from(parsed.volume), samples.len(), samples);
     let answer = heard.answer;
     let next = heard.controller;
     match answer {
-        Analysis::Refused(cause) => Answered {
+        Err(cause) => Answered {
             controller: next,
-            reply: Reply::Refused(cause),
+            reply: Err(cause),
         },
-        Analysis::Accepted(near) => recommended(next, near, probability, level),
+        Ok(near) => recommended(next, near, parsed.probability, parsed.level),
     }
 }
 
@@ -73,12 +73,11 @@ pub fn answer_line(controller: InputVolumeController, line: &[u8]) -> Answered
     ensures { AnsweredAs controller line.now result }
 {
     let mut samples = [0.0f32; MOST_SAMPLES];
-    let parsed = parse(line, &mut samples);
-    let Parsed::Frame(volume, probability, level, n) = parsed else {
+    let Some(parsed) = parse(line, &mut samples) else {
         return Answered {
             controller,
-            reply: Reply::Refused(Refusal::FrameLine),
+            reply: Err(Refusal::FrameLine),
         };
     };
-    answer_frame(controller, volume, probability, level, &samples[..n])
+    answer_frame(controller, parsed, &samples[..parsed.count])
 }

@@ -1,7 +1,6 @@
 // The answers to a stream of lines that comes in pieces of any size. Memory is constant: a controller, and the beginning of a line that a piece's end has cut.
-ghost use Rattle.std.specs.Prelude.{◌≡◌, ◌+◌, ◌≤◌, length, [], ◌++◌};
-ghost use Rattle.std.proofs.Math.Seq.{paste};
-ghost use Rattle.frame_lines.specs.Answer.{longest, answer_of, held};
+ghost use Rattle.std.specs.Prelude.{◌≡◌, [], ◌++◌};
+ghost use Rattle.frame_lines.specs.Answer.{held};
 ghost use Rattle.frame_lines.specs.Stream.{ended};
 ghost use Rattle.frame_lines.specs.Feeds.{kept};
 ghost use Rattle.frame_answers.specs.Ready.{sized_of, ready_of};
@@ -9,12 +8,11 @@ ghost use Rattle.frame_answers.specs.Stream.{view_of, Good, Becomes, fresh_state
 
 use crate::answers::{answer_frame, answer_line};
 use clipping_predictor_level_buffer::level::MAX_SAMPLES_PER_CHANNEL;
-use frame_lines::answer::{LONGEST, Reply, Text, answer};
-use frame_lines::line::{MOST_SAMPLES, Parsed, parse};
-use frame_lines::lines::{Begun, Feed, next_feed};
+use frame_lines::answer::{LONGEST, Reply, Text, answer, put_reply};
+use frame_lines::line::{Frame, MOST_SAMPLES, parse};
+use frame_lines::lines::{Begun, next_feed};
 use input_volume_controller::InputVolumeController;
-use mono_input_volume_controller::config::default_config;
-use mono_input_volume_controller::speech_level::SpeechLevel;
+use mono_input_volume_controller::config::Config;
 use numbers::refusal::Refusal;
 
 #[derive(Clone, Copy)]
@@ -38,55 +36,27 @@ struct Ended {
     reply: Reply,
 }
 
-// A line before a controller hears of it: refused whatever the controller is, or a frame of a size that may fit.
-#[derive(Clone, Copy)]
-enum Ready {
-    Refused(Refusal),
-    Frame(u8, f32, SpeechLevel, usize),
-}
-
 // A line in order: a frame without samples, or with more than a channel has, is refused by every controller.
-fn sized(volume: u8, probability: f32, level: SpeechLevel, n: usize) -> Ready
-    ensures { result ≡ sized_of volume probability level n }
+fn sized(frame: Frame) -> Result<Frame, Refusal>
+    ensures { result ≡ sized_of frame }
 {
-    if n < 1 {
-        return Ready::Refused(Refusal::FrameSize);
+    if frame.count < 1 {
+        return Err(Refusal::FrameSize);
     }
-    if MAX_SAMPLES_PER_CHANNEL < n {
-        return Ready::Refused(Refusal::FrameSize);
+    if MAX_SAMPLES_PER_CHANNEL < frame.count {
+        return Err(Refusal::FrameSize);
     }
-    Ready::Frame(volume, probability, level, n)
+    Ok(frame)
 }
 
-// Any line, as it was parsed.
-fn made_ready(parsed: Parsed) -> Ready
+// A line before a controller hears of it, as it was parsed: refused whatever the controller is, or a frame of a size that may fit.
+fn ready(parsed: Option<Frame>) -> Result<Frame, Refusal>
     ensures { result ≡ ready_of parsed }
 {
     match parsed {
-        Parsed::Malformed => Ready::Refused(Refusal::FrameLine),
-        Parsed::Frame(volume, probability, level, n) => sized(volume, probability, level, n),
+        Some(frame) => sized(frame),
+        None => Err(Refusal::FrameLine),
     }
-}
-
-// A text from a place on.
-fn put(out: &mut [u8], at: usize, text: Text)
-    requires { (length text.bytes ≡ longest) × (text.length ≤ longest) × (at + text.length ≤ length out.old) }
-    ensures { out.new ≡ paste out.old at text.bytes text.length }
-{
-    let count = text.length;
-    for i in 0..count {
-        out[at + i] = text.bytes[i];
-    }
-}
-
-// An answer from a place on, and the place behind it.
-fn put_reply(out: &mut [u8], at: usize, reply: Reply) -> usize
-    requires { at + longest ≤ length out.old }
-    ensures { (result ≡ at + length (answer_of reply)) × (out.new ≡ paste out.old at (answer_of reply) (length (answer_of reply))) }
-{
-    let text = answer(reply);
-    put(out, at, text);
-    at + text.length
 }
 
 impl Stream {
@@ -94,10 +64,9 @@ impl Stream {
     pub fn new() -> Stream
         ensures { Becomes fresh_state result }
     {
-        let made = InputVolumeController::new(1, default_config());
-        let controller = made.controller;
+        let made = InputVolumeController::new(1, Config::default());
         Stream {
-            controller,
+            controller: made.controller,
             begun: Begun::new(),
         }
     }
@@ -107,20 +76,14 @@ impl Stream {
         requires { Good self }
         ensures { EndedAs (view_of self) part.now result }
     {
-        let controller = self.controller;
-        let begun = self.begun;
-        let whole = begun.append(part);
-        let n = whole.length;
-        let bytes = whole.bytes;
-        let answered = answer_line(controller, &bytes[..n]);
-        let next = answered.controller;
-        let reply = answered.reply;
+        let whole = self.begun.append(part);
+        let answered = answer_line(self.controller, whole.text());
         Ended {
             stream: Stream {
-                controller: next,
+                controller: answered.controller,
                 begun: whole.cleared(),
             },
-            reply,
+            reply: answered.reply,
         }
     }
 
@@ -129,11 +92,9 @@ impl Stream {
         requires { Good self × (ended (kept self.begun ++ part.now) ≡ []) }
         ensures { Becomes (after_piece (view_of self) part.now) result }
     {
-        let controller = self.controller;
-        let begun = self.begun;
         Stream {
-            controller,
-            begun: begun.append(part),
+            controller: self.controller,
+            begun: self.begun.append(part),
         }
     }
 
@@ -149,8 +110,7 @@ impl Stream {
         let mut written = 0;
         let mut room = out.len() / LONGEST;
         while 0 < room {
-            let next = next_feed(piece, at);
-            let Feed::At(end) = next else {
+            let Some(end) = next_feed(piece, at) else {
                 let stream = Stream { controller, begun };
                 return Fed {
                     stream: stream.keeping(&piece[at..]),
@@ -158,18 +118,17 @@ impl Stream {
                     written,
                 };
             };
-            let ready = made_ready(parse(&piece[at..end], &mut samples));
+            let line = ready(parse(&piece[at..end], &mut samples));
             at = end + 1;
             room -= 1;
-            match ready {
-                Ready::Refused(cause) => {
-                    written = put_reply(out, written, Reply::Refused(cause));
+            match line {
+                Err(cause) => {
+                    written = put_reply(out, written, Err(cause));
                 }
-                Ready::Frame(volume, probability, level, n) => {
-                    let done = answer_frame(controller, volume, probability, level, &samples[..n]);
+                Ok(frame) => {
+                    let done = answer_frame(controller, frame, &samples[..frame.count]);
                     controller = done.controller;
-                    let reply = done.reply;
-                    written = put_reply(out, written, reply);
+                    written = put_reply(out, written, done.reply);
                 }
             }
         }
@@ -185,8 +144,7 @@ impl Stream {
         requires { Good self }
         ensures { FedAs (view_of self) piece.now out.old out.new result }
     {
-        let begun = self.begun;
-        if begun.length == 0 {
+        if self.begun.length == 0 {
             return self.whole_lines(piece, out);
         }
         let room = out.len();
@@ -197,8 +155,7 @@ impl Stream {
                 written: 0,
             };
         }
-        let next = next_feed(piece, 0);
-        let Feed::At(end) = next else {
+        let Some(end) = next_feed(piece, 0) else {
             return Fed {
                 stream: self.keeping(piece),
                 used: piece.len(),
@@ -206,13 +163,13 @@ impl Stream {
             };
         };
         let first = self.ended(&piece[..end]);
-        let stream = first.stream;
-        let reply = first.reply;
         let from = end + 1;
-        let start = put_reply(out, 0, reply);
+        let start = put_reply(out, 0, first.reply);
         // The others get the room of one answer less.
         let stop = start + (room - LONGEST);
-        let mut rest = stream.whole_lines(&piece[from..], &mut out[start..stop]);
+        let mut rest = first
+            .stream
+            .whole_lines(&piece[from..], &mut out[start..stop]);
         rest.used += from;
         rest.written += start;
         rest
@@ -223,18 +180,13 @@ impl Stream {
         requires { Good self }
         ensures { result ≡ held (finished_text (view_of self)) }
     {
-        let begun = self.begun;
-        if begun.length == 0 {
+        if self.begun.length == 0 {
             return Text {
                 bytes: [0u8; LONGEST],
                 length: 0,
             };
         }
-        let controller = self.controller;
-        let n = begun.length;
-        let bytes = begun.bytes;
-        let answered = answer_line(controller, &bytes[..n]);
-        let reply = answered.reply;
-        answer(reply)
+        let answered = answer_line(self.controller, self.begun.text());
+        answer(answered.reply)
     }
 }

@@ -2,7 +2,6 @@
 use mathlib.Core.Path.{◌≡◌, refl, sym, ap, ◌∙◌}
 use mathlib.Core.Bool.{Bool, true, false}
 use mathlib.Core.List.{List, [], ◌∷◌, ◌++◌}
-use mathlib.Core.Option.{Option, none, some}
 use Prim.Native.Nat.{ℕ, ◌+◌, ◌-◌, ◌≤◌, ◌<◌}
 use native.Mathlib.Numerals.{add-one}
 use native.Mathlib.Omega.{arith}
@@ -11,9 +10,9 @@ use lib.ListN.{length, take, drop, set, length-append, length-map}
 use lib.Seq.{take-length, take-suc-set, drop-set-lt, drop-append-add, drop-drop, take-paste, drop-paste}
 use borrow.Author.Tests.{leb-true, leb-false, ltb-false}
 use Rattle.numbers.specs.declared.refusal.Refusal.TheVariants.{FrameLine}
-use Rattle.frame_lines.specs.declared.spelling.Respelled.{Respelled}
-use Rattle.frame_lines.specs.declared.spelling.Respelled.TheVariants.{Malformed, NoRoom, Spelled}
-use Rattle.frame_lines.specs.declared.answer.Reply.TheVariants.{Refused}
+use Rattle.std.specs.Prelude.{Result, Ok, Err, Option, None, Some}
+use Rattle.frame_lines.specs.declared.spelling.Unspelled.{Unspelled}
+use Rattle.frame_lines.specs.declared.spelling.Unspelled.TheVariants.{Malformed, NoRoom}
 use Rattle.frame_lines.specs.Line.{Fields}
 use Rattle.frame_lines.specs.Answer.{decimal, number_text, answer_of, laid, PutAs}
 use Rattle.frame_lines.specs.Forgiven.{lowered, fields_in, lenient_meaning}
@@ -29,36 +28,36 @@ use Rattle.frame_lines.proofs.OneSpelling.{taken_short}
 
 pub record Means (line : List ℕ) (n : ℕ) : Type 0 where
   pub fields : Fields
-  pub means : lenient_meaning line ≡ some fields
+  pub means : lenient_meaning line ≡ Some fields
   pub length_is : n ≡ length (spelling fields)
 
 module _ (line : List ℕ) where
-  means_if : (n : ℕ) (o : Option Fields) → lenient_meaning line ≡ o → taken_if o ≡ Spelled n → Means line n
-  means_if n none p e = let z : ◌≡◌ {A = ℕ} 0 1 = cc in absurd (omega arith)
-  means_if n (some f) p e = record { fields = f; means = p; length_is = cc }
+  means_if : (n : ℕ) (o : Option Fields) → lenient_meaning line ≡ o → taken_if o ≡ Ok n → Means line n
+  means_if n None p e = let z : ◌≡◌ {A = ℕ} 0 1 = cc in absurd (omega arith)
+  means_if n (Some f) p e = record { fields = f; means = p; length_is = cc }
 
-  spelled_if : (n : ℕ) (s r : Bool) → respelled_if s r line ≡ Spelled n → Means line n
+  spelled_if : (n : ℕ) (s r : Bool) → respelled_if s r line ≡ Ok n → Means line n
   spelled_if n false r e = let z : ◌≡◌ {A = ℕ} 0 1 = cc in absurd (omega arith)
   spelled_if n true false e = let z : ◌≡◌ {A = ℕ} 0 1 = cc in absurd (omega arith)
   spelled_if n true true e = means_if n (lenient_meaning line) refl e
 
-  none_if : (o : Option Fields) → taken_if o ≡ Malformed → o ≡ none
-  none_if none e = refl
-  none_if (some f) e = let z : ◌≡◌ {A = ℕ} 0 1 = cc in absurd (omega arith)
+  none_if : (o : Option Fields) → taken_if o ≡ Err Malformed → o ≡ None
+  none_if None e = refl
+  none_if (Some f) e = let z : ◌≡◌ {A = ℕ} 0 1 = cc in absurd (omega arith)
 
-  malformed_if : (s r : Bool) → leb (length line) 2000 ≡ s → respelled_if s r line ≡ Malformed → lenient_meaning line ≡ none
+  malformed_if : (s r : Bool) → leb (length line) 2000 ≡ s → respelled_if s r line ≡ Err Malformed → lenient_meaning line ≡ None
   malformed_if false r p e = long_lenient line (leb-false (length line) 2000 p)
   malformed_if true false p e = let z : ◌≡◌ {A = ℕ} 0 1 = cc in absurd (omega arith)
   malformed_if true true p e = none_if (lenient_meaning line) e
 
-  no_room_if : (n : ℕ) (s r : Bool) → leb (length line) 2000 ≡ s → ltb (length line) n ≡ r → respelled_if s r line ≡ NoRoom → longest_respelling ≤ n → ⊥
+  no_room_if : (n : ℕ) (s r : Bool) → leb (length line) 2000 ≡ s → ltb (length line) n ≡ r → respelled_if s r line ≡ Err NoRoom → longest_respelling ≤ n → ⊥
   no_room_if n false r p q e h = let z : ◌≡◌ {A = ℕ} 0 1 = cc in omega arith
   no_room_if n true false p q e h = omega (arith, leb-true (length line) 2000 p, ltb-false (length line) n q)
   no_room_if n true true p q e h = taken_apart (lenient_meaning line) e
     where
-      taken_apart : (o : Option Fields) → taken_if o ≡ NoRoom → ⊥
-      taken_apart none k = let z : ◌≡◌ {A = ℕ} 0 1 = cc in omega arith
-      taken_apart (some f) k = let z : ◌≡◌ {A = ℕ} 0 1 = cc in omega arith
+      taken_apart : (o : Option Fields) → taken_if o ≡ Err NoRoom → ⊥
+      taken_apart None k = let z : ◌≡◌ {A = ℕ} 0 1 = cc in omega arith
+      taken_apart (Some f) k = let z : ◌≡◌ {A = ℕ} 0 1 = cc in omega arith
 
   -- how much is tried
   tried_short : (s r : Bool) → leb (length line) 2000 ≡ s → length (tried_if s r line) ≤ longest_respelling
@@ -78,17 +77,17 @@ laid_rest t before m h =
 full : (t : List ℕ) → 0 < length t → t ≡ [] → ⊥
 full t h e = omega (arith, ap length e)
 
-module _ (line before tried : List ℕ) (a : Respelled) (h : RespelledAs line before tried a) (room : longest_respelling ≤ length before) (same : length tried ≡ length before) where
+module _ (line before tried : List ℕ) (a : Result ℕ Unspelled) (h : RespelledAs line before tried a) (room : longest_respelling ≤ length before) (same : length tried ≡ length before) where
   rest : (m : ℕ) → longest_respelling ≤ m → drop m tried ≡ drop m before
   rest m k =
       let s = leb (length line) 2000 in
       let r = ltb (length line) (length before) in
       ap (drop m) h.lent_is ∙ laid_rest (tried_if s r line) before m (omega (arith, tried_short line s r refl))
 
-  pub never : a ≡ NoRoom → ⊥
+  pub never : a ≡ Err NoRoom → ⊥
   never e = no_room_if line (length before) (leb (length line) 2000) (ltb (length line) (length before)) refl refl (sym h.answer_is ∙ e) room
 
-  module _ (n : ℕ) (e : a ≡ Spelled n) where
+  module _ (n : ℕ) (e : a ≡ Ok n) where
     told : Means line n
     told = spelled_if line n (leb (length line) 2000) (ltb (length line) (length before)) (sym h.answer_is ∙ e)
 
@@ -113,10 +112,10 @@ module _ (line before tried : List ℕ) (a : Respelled) (h : RespelledAs line be
           none_is = λ k. absurd (full (text_of_line line) (omega (arith, count)) k);
         }
 
-  pub refused_answer : a ≡ Malformed → (after : List ℕ) (r : ℕ) → PutAs (answer_of (Refused FrameLine)) 0 tried after r → AnswersIn (text_of_line line) before after r
+  pub refused_answer : a ≡ Err Malformed → (after : List ℕ) (r : ℕ) → PutAs (answer_of (Err FrameLine)) 0 tried after r → AnswersIn (text_of_line line) before after r
   unfolding answer_of respelled_text number_text decimal
   refused_answer e after r p =
-      let t = answer_of (Refused FrameLine) in
+      let t = answer_of (Err FrameLine) in
       let is : text_of_line line ≡ t = ap respelled_text (malformed_if line (leb (length line) 2000) (ltb (length line) (length before)) refl (sym h.answer_is ∙ e)) in
       let put = had_room t 0 tried after r (omega (arith, same, room)) p in
       let count : r ≡ length t = put.0 in

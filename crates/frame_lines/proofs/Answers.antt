@@ -2,17 +2,15 @@
 use mathlib.Core.Path.{◌≡◌, refl, sym, ap, ◌∙◌}
 use mathlib.Core.Bool.{Bool, true, false}
 use mathlib.Core.List.{List, [], ◌∷◌, ◌++◌}
-use Prim.Native.Nat.{ℕ, ◌+◌, ◌≤◌, ◌<◌}
+use Prim.Native.Nat.{ℕ, ◌+◌, ◌≤◌}
 use native.Mathlib.Omega.{arith}
 use lib.Dec.{ltb}
 use lib.ListN.{length, take, drop, length-append}
 use lib.Seq.{take-append_seam, take-length, drop-append-add, drop-drop, paste}
-use borrow.Author.Tests.{le-leb, lt-leb}
+use borrow.Author.Tests.{le-leb}
 use Rattle.numbers.specs.Refusal.{number_of}
-use Rattle.frame_lines.specs.declared.answer.Text.{Text}
-use Rattle.frame_lines.specs.declared.answer.Reply.{Reply}
-use Rattle.frame_lines.specs.declared.answer.Reply.TheVariants.{Volume, Refused}
-use Rattle.frame_lines.specs.Answer.{decimal_if, decimal, longest, digits_of, volume_text, number_text, answer_of, held, laid, has_room, behind_text, with_text, PutAs}
+use Rattle.std.specs.Prelude.{Ok, Err}
+use Rattle.frame_lines.specs.Answer.{Reply, decimal_if, decimal, longest, digits_of, volume_text, number_text, answer_of, held, laid, has_room, behind_text, with_text, PutAs}
 
 -- a text of at most five bytes, in its array
 pub record Fitting (text : List ℕ) : Type 0 where
@@ -25,20 +23,14 @@ number_fits false n = record { within = omega arith; places = refl }
 
 pub answer_fits : (reply : Reply) → Fitting (answer_of reply)
 unfolding answer_of volume_text digits_of number_text decimal
-answer_fits (Volume volume near) = record { within = omega arith; places = refl }
-answer_fits (Refused cause) = number_fits (ltb (number_of cause) 10) (number_of cause)
+answer_fits (Ok r) = record { within = omega arith; places = refl }
+answer_fits (Err cause) = number_fits (ltb (number_of cause) 10) (number_of cause)
 
 -- its first bytes are the text
 pub held_text : (text : List ℕ) → take (held text).length (held text).bytes ≡ text
 held_text text = take-append_seam text _
 
 -- ---- an answer that is put
-
--- the text that an array holds
-pub put_held : (out : List ℕ) (at : ℕ) (x : List ℕ) (t : Text) → t ≡ held x → paste out at t.bytes t.length ≡ paste out at x (length x)
-put_held out at x t e =
-    ap (λ (u : Text). paste out at u.bytes u.length) e
-    ∙ (λ i. (take at out ++ (held_text x ∙ sym (take-length x)) i) ++ drop (at + length x) out)
 
 -- a text behind another, at the beginning of a slice
 pub put_behind : (t x out₀ out : List ℕ) → out ≡ laid t out₀ → paste out (length t) x (length x) ≡ laid (t ++ x) out₀
@@ -48,19 +40,6 @@ put_behind t x out₀ out e =
     ∙ ap (λ (m : ℕ). (t ++ x) ++ drop m out₀) (sym (length-append t x))
 
 module _ (text : List ℕ) (at : ℕ) (before after : List ℕ) (r : ℕ) where
-  pub put_as : at + longest ≤ length before → r ≡ at + length text → after ≡ paste before at text (length text) → PutAs text at before after r
-  put_as h p q =
-      let room : has_room at before ≡ true = le-leb (at + longest) (length before) h in
-      record {
-        behind_is = p ∙ ap (λ (t : Bool). behind_text t at text) (sym room);
-        out_is = q ∙ (λ i. (take at before ++ take-length text i) ++ drop (at + length text) before) ∙ ap (λ (t : Bool). with_text t at text before) (sym room);
-      }
-
-  pub not_put : length before < at + longest → r ≡ at → after ≡ before → PutAs text at before after r
-  not_put h p q =
-      let room : has_room at before ≡ false = lt-leb (at + longest) (length before) h in
-      record { behind_is = p ∙ ap (λ (t : Bool). behind_text t at text) (sym room); out_is = q ∙ ap (λ (t : Bool). with_text t at text before) (sym room) }
-
   pub had_room : at + longest ≤ length before → PutAs text at before after r → (r ≡ at + length text) × (after ≡ paste before at text (length text))
   had_room h p =
       let room : has_room at before ≡ true = le-leb (at + longest) (length before) h in (

@@ -2,7 +2,6 @@
 use mathlib.Core.Path.{◌≡◌, refl, sym, ap, subst, ◌∙◌}
 use mathlib.Core.Bool.{Bool, true, false}
 use mathlib.Core.List.{List, [], ◌∷◌, ◌++◌, flatten, append-nil}
-use mathlib.Core.Option.{Option, none, some}
 use Prim.Native.Nat.{ℕ, suc, ◌+◌, ◌-◌, ◌≤◌, ◌<◌}
 use native.Mathlib.Nat.{not-suc-le-zero}
 use native.Mathlib.Numerals.{add-one}
@@ -13,7 +12,7 @@ use borrow.Author.Tests.{le-leb, lt-leb}
 use Rattle.frame_lines.specs.declared.lines.Begun.{Begun}
 use Rattle.frame_lines.specs.declared.respelling.Fed.{Fed}
 use Rattle.frame_lines.specs.declared.respelling.Whole.{Whole}
-use Rattle.frame_lines.specs.declared.search.Place.TheVariants.{At, Nowhere}
+use Rattle.std.specs.Prelude.{Some, None, Option}
 use Rattle.frame_lines.specs.Search.{first_of, place_of}
 use Rattle.frame_lines.specs.Stream.{kept_characters, cut, ended, begun}
 use Rattle.frame_lines.specs.Feeds.{kept, Keeps, GoodBeginning}
@@ -30,7 +29,7 @@ use Rattle.frame_lines.proofs.Readers.{long_lenient}
 -- ---- a line is answered as far as it is kept
 
 pub cut_text : (line : List ℕ) → text_of_line (cut line) ≡ text_of_line line
-cut_text line = ap respelled_text (alike_cut lenient_meaning none long_lenient line)
+cut_text line = ap respelled_text (alike_cut lenient_meaning None long_lenient line)
 
 -- ---- how much is used
 
@@ -80,7 +79,7 @@ module _ (p : Begun) (u : GoodBeginning p) where
         }
 
     -- no line ends: all is kept
-    pub goes_on : 0 < p.length → longest_respelling ≤ length before → line_feed_from piece 0 ≡ Nowhere → (next : Begun) → Keeps (cut (kept p ++ piece)) next → FedAs (kept p) piece before before (record { begun = next; used = length piece; written = 0 })
+    pub goes_on : 0 < p.length → longest_respelling ≤ length before → line_feed_from piece 0 ≡ None → (next : Begun) → Keeps (cut (kept p ++ piece)) next → FedAs (kept p) piece before before (record { begun = next; used = length piece; written = 0 })
     unfolding place_of
     goes_on more room lost next k =
         let all : take (length piece) piece ≡ piece = take-length piece in
@@ -94,10 +93,10 @@ module _ (p : Begun) (u : GoodBeginning p) where
         }
 
     -- the line ends at e
-    module _ (more : 0 < p.length) (room : longest_respelling ≤ length before) (e : ℕ) (found : line_feed_from piece 0 ≡ At e) where
-      first_at : first_of 10 piece ≡ some e
+    module _ (more : 0 < p.length) (room : longest_respelling ≤ length before) (e : ℕ) (found : line_feed_from piece 0 ≡ Some e) where
+      first_at : first_of 10 piece ≡ Some e
       unfolding place_of
-      first_at = let n : e - 0 ≡ e = omega arith in found_if 0 e (first_of 10 piece) found ∙ ap some n
+      first_at = let n : e - 0 ≡ e = omega arith in found_if 0 e (first_of 10 piece) found ∙ ap Some n
 
       first : FirstLine piece e
       first = first_line piece e first_at

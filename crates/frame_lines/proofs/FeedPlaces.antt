@@ -2,12 +2,11 @@
 use mathlib.Core.Path.{◌≡◌, refl, ap, subst, ◌∙◌}
 use mathlib.Core.Bool.{Bool, true, false}
 use mathlib.Core.List.{List, [], ◌∷◌, ◌++◌}
-use mathlib.Core.Option.{Option, none, some}
 use Prim.Native.Nat.{ℕ, suc, ◌+◌, ◌-◌, ◌≤◌, ◌<◌}
 use native.Mathlib.Omega.{arith}
 use lib.ListN.{length, take, drop, length-drop}
 use lib.Seq.{drop-drop}
-use Rattle.frame_lines.specs.declared.search.Place.TheVariants.{At, Nowhere}
+use Rattle.std.specs.Prelude.{Some, None, Option}
 use Rattle.frame_lines.specs.Lines.{is_feed}
 use Rattle.frame_lines.specs.Stream.{ended_if, ended, begun_if, begun}
 use Rattle.frame_lines.specs.Search.{here_if, first_of, place_of}
@@ -46,24 +45,24 @@ this_line b text e = record {
   clears = λ i. begun_if (e i) b [] [];
 }
 
-first_if_lem : (b : ℕ) (text : List ℕ) (n : ℕ) (t : Bool) (o : Option ℕ) → is_feed b ≡ t → first_of 10 text ≡ o → ((m : ℕ) → first_of 10 text ≡ some m → FirstLine text m)
-    → here_if t o ≡ some n → FirstLine (b ∷ text) n
+first_if_lem : (b : ℕ) (text : List ℕ) (n : ℕ) (t : Bool) (o : Option ℕ) → is_feed b ≡ t → first_of 10 text ≡ o → ((m : ℕ) → first_of 10 text ≡ Some m → FirstLine text m)
+    → here_if t o ≡ Some n → FirstLine (b ∷ text) n
 first_if_lem b text n true o p q f e = let k : 0 ≡ n = cc in subst (FirstLine (b ∷ text)) k (this_line b text p)
-first_if_lem b text n false none p q f e = let z : ◌≡◌ {A = ℕ} 0 1 = cc in absurd (omega arith)
-first_if_lem b text n false (some m) p q f e = let k : suc m ≡ n = cc in subst (FirstLine (b ∷ text)) k (later_line b text m p (f m q))
+first_if_lem b text n false None p q f e = let z : ◌≡◌ {A = ℕ} 0 1 = cc in absurd (omega arith)
+first_if_lem b text n false (Some m) p q f e = let k : suc m ≡ n = cc in subst (FirstLine (b ∷ text)) k (later_line b text m p (f m q))
 
-pub first_line : (text : List ℕ) (n : ℕ) → first_of 10 text ≡ some n → FirstLine text n
+pub first_line : (text : List ℕ) (n : ℕ) → first_of 10 text ≡ Some n → FirstLine text n
 unfolding first_of
 first_line [] n e = let z : ◌≡◌ {A = ℕ} 0 1 = cc in absurd (omega arith)
 first_line (b ∷ text) n e = first_if_lem b text n (is_feed b) (first_of 10 text) refl refl (first_line text) e
 
-no_feed_if : (b : ℕ) (text : List ℕ) (t : Bool) (o : Option ℕ) → is_feed b ≡ t → first_of 10 text ≡ o → (first_of 10 text ≡ none → ended text ≡ []) → here_if t o ≡ none → ended (b ∷ text) ≡ []
+no_feed_if : (b : ℕ) (text : List ℕ) (t : Bool) (o : Option ℕ) → is_feed b ≡ t → first_of 10 text ≡ o → (first_of 10 text ≡ None → ended text ≡ []) → here_if t o ≡ None → ended (b ∷ text) ≡ []
 unfolding ended
 no_feed_if b text true o p q f e = let z : ◌≡◌ {A = ℕ} 0 1 = cc in absurd (omega arith)
-no_feed_if b text false none p q f e = λ i. ended_if (p i) b (f q i)
-no_feed_if b text false (some m) p q f e = let z : ◌≡◌ {A = ℕ} 0 1 = cc in absurd (omega arith)
+no_feed_if b text false None p q f e = λ i. ended_if (p i) b (f q i)
+no_feed_if b text false (Some m) p q f e = let z : ◌≡◌ {A = ℕ} 0 1 = cc in absurd (omega arith)
 
-no_line : (text : List ℕ) → first_of 10 text ≡ none → ended text ≡ []
+no_line : (text : List ℕ) → first_of 10 text ≡ None → ended text ≡ []
 unfolding first_of ended
 no_line [] e = refl
 no_line (b ∷ text) e = no_feed_if b text (is_feed b) (first_of 10 text) refl refl (no_line text) e
@@ -78,7 +77,7 @@ pub record LineAt (k bytes : List ℕ) (start e : ℕ) : Type 0 where
   pub begins : begun (k ++ drop start bytes) ≡ begun (drop (e + 1) bytes)
 
 module _ (k bytes : List ℕ) (start : ℕ) (u : ended k ≡ []) where
-  pub line_found : (e : ℕ) → line_feed_from bytes start ≡ At e → LineAt k bytes start e
+  pub line_found : (e : ℕ) → line_feed_from bytes start ≡ Some e → LineAt k bytes start e
   unfolding place_of
   line_found e p =
       let f = first_line (drop start bytes) (e - start) (found_if start e (first_of 10 (drop start bytes)) p) in
@@ -98,6 +97,6 @@ module _ (k bytes : List ℕ) (start : ℕ) (u : ended k ≡ []) where
       }
 
   -- no line ends: all is the beginning of one
-  pub no_line_ends : line_feed_from bytes start ≡ Nowhere → ended (k ++ drop start bytes) ≡ []
+  pub no_line_ends : line_feed_from bytes start ≡ None → ended (k ++ drop start bytes) ≡ []
   unfolding place_of
   no_line_ends p = ended_after k (drop start bytes) u ∙ ap (joined k) (no_line (drop start bytes) (lost_if start (first_of 10 (drop start bytes)) p))

@@ -9,7 +9,6 @@ pub mod Parses
 pub mod Pieces
 pub mod Meanings
 pub mod Searching
-pub mod Feeding
 pub mod Keeping
 pub mod Answers
 pub mod LastLine

@@ -2,7 +2,6 @@
 use mathlib.Core.Path.{◌≡◌, refl, sym, ap, ◌∙◌}
 use mathlib.Core.Bool.{Bool, true, false, ◌&&◌}
 use mathlib.Core.List.{List, [], ◌∷◌, map}
-use mathlib.Core.Option.{Option, none, some}
 use Prim.Native.Nat.{ℕ, ◌≤◌, ◌<◌}
 use native.Mathlib.Nat.{le_of_suc-le-suc, not-suc-le-zero}
 use native.Mathlib.Omega.{arith}
@@ -12,12 +11,12 @@ use lib.Dec.{leb}
 use lib.ListN.{length, take, length-take, length-map, length-drop}
 use lib.Seq.{take_all}
 use borrow.Author.Tests.{lt-leb, leb-true}
-use Rattle.mono_input_volume_controller.specs.declared.speech_level.SpeechLevel.{SpeechLevel}
-use Rattle.frame_lines.specs.declared.line.Parsed.TheVariants.{Frame}
+use Rattle.std.specs.Prelude.{Option, Some, None}
+use Rattle.frame_lines.specs.declared.line.Frame.{Frame}
 use Rattle.frame_lines.specs.Digits.{are_digits}
 use Rattle.frame_lines.specs.Samples.{are_samples}
 use Rattle.frame_lines.specs.Line.{Fields, most_characters, most_samples, part, is_blank, is_dashed, level_is_good, samples_start, sample_text, head_is_good, is_framed, is_well_formed, fields_of, meaning_if, meaning}
-use Rattle.frame_lines.specs.Parsed.{float_of, speech_level_of, parsed_of, sample_of, samples_read, over, ParsedAs}
+use Rattle.frame_lines.specs.Parsed.{frame_of, parsed_of, sample_of, samples_read, over, ParsedAs}
 use Rattle.frame_lines.specs.Stream.{kept_characters, cut}
 use Rattle.frame_lines.proofs.Tests.{Both, both}
 use Rattle.frame_lines.proofs.Counted.{two_below}
@@ -25,7 +24,7 @@ use Rattle.frame_lines.proofs.Parts.{part_two}
 use Rattle.frame_lines.proofs.Heads.{blank_within}
 use Rattle.frame_lines.proofs.SampleTexts.{fours}
 
-too_long : (line : List ℕ) → most_characters < length line → meaning line ≡ none
+too_long : (line : List ℕ) → most_characters < length line → meaning line ≡ None
 unfolding meaning is_well_formed is_framed
 too_long line h = simp (lt-leb _ _ h)
 
@@ -37,19 +36,19 @@ alike_cut f x long line = elim (dec_le (length line) most_characters) [
 ]
 
 pub cut_alike : (line : List ℕ) → meaning (cut line) ≡ meaning line
-cut_alike line = alike_cut meaning none too_long line
+cut_alike line = alike_cut meaning None too_long line
 
 -- ---- the samples
 
-framed_if : (line : List ℕ) (f : Fields) (t u : Bool) → meaning_if (t && u) line ≡ some f → t ≡ true
+framed_if : (line : List ℕ) (f : Fields) (t u : Bool) → meaning_if (t && u) line ≡ Some f → t ≡ true
 framed_if line f true u e = refl
 framed_if line f false u e = let z : ◌≡◌ {A = ℕ} 0 1 = cc in absurd (omega arith)
 
-kept_if : (line : List ℕ) (f : Fields) (t : Bool) → meaning_if t line ≡ some f → fields_of line ≡ f
+kept_if : (line : List ℕ) (f : Fields) (t : Bool) → meaning_if t line ≡ Some f → fields_of line ≡ f
 kept_if line f true e = cc
 kept_if line f false e = let z : ◌≡◌ {A = ℕ} 0 1 = cc in absurd (omega arith)
 
-module _ (line : List ℕ) (f : Fields) (e : meaning line ≡ some f) where
+module _ (line : List ℕ) (f : Fields) (e : meaning line ≡ Some f) where
   framed : is_framed line ≡ true
   unfolding meaning is_well_formed
   framed = framed_if line f (is_framed line) (are_samples (sample_text line)) e
@@ -98,7 +97,7 @@ unfolding is_framed
 short line e = leb-true (length line) most_characters (both (leb (length line) most_characters) (head_is_good line) e).first
 
 -- no line has more samples than fit
-pub few_samples : (line : List ℕ) (f : Fields) → meaning line ≡ some f → length f.samples ≤ most_samples
+pub few_samples : (line : List ℕ) (f : Fields) → meaning line ≡ Some f → length f.samples ≤ most_samples
 unfolding fields_of
 few_samples line f e =
     let start = samples_start (is_dashed line) in
@@ -112,34 +111,28 @@ few_samples line f e =
     )
 
 -- a line that was parsed, with its samples in the first places of a slice that has room for them
-pub record FrameOf (line : List ℕ) (after : List Float) (volume : ℕ) (probability : Float) (level : SpeechLevel) (n : ℕ) : Type 0 where
+pub record FrameOf (line : List ℕ) (after : List Float) (frame : Frame) : Type 0 where
   pub meant : Fields
-  pub means : meaning line ≡ some meant
-  pub volume_is : volume ≡ meant.volume
-  pub probability_is : probability ≡ float_of meant.probability
-  pub level_is : level ≡ speech_level_of meant.level
-  pub count_is : n ≡ length meant.samples
-  pub samples_are : take n after ≡ map sample_of meant.samples
+  pub means : meaning line ≡ Some meant
+  pub is : frame ≡ frame_of meant
+  pub samples_are : take frame.count after ≡ map sample_of meant.samples
 
 module _ (line : List ℕ) (before after : List Float) where
-  module _ (v : ℕ) (p : Float) (l : SpeechLevel) (n : ℕ) (room : most_samples ≤ length before) (lent : after ≡ over (samples_read line) before) where
-    frame_if : (o : Option Fields) → meaning line ≡ o → Frame v p l n ≡ parsed_of o → FrameOf line after v p l n
-    frame_if none m e = let z : ◌≡◌ {A = ℕ} 0 1 = cc in absurd (omega arith)
-    frame_if (some f) m e =
-        let count : n ≡ length f.samples = cc in
+  module _ (frame : Frame) (room : most_samples ≤ length before) (lent : after ≡ over (samples_read line) before) where
+    frame_if : (o : Option Fields) → meaning line ≡ o → Some frame ≡ parsed_of o → FrameOf line after frame
+    frame_if None m e = let z : ◌≡◌ {A = ℕ} 0 1 = cc in absurd (omega arith)
+    frame_if (Some f) m e =
+        let count : frame.count ≡ length f.samples = cc in
         let read = samples_read_lem line f m in
         let all : length (map sample_of f.samples) ≡ length f.samples = length-map f.samples sample_of in
         record {
           meant = f;
           means = m;
-          volume_is = cc;
-          probability_is = cc;
-          level_is = cc;
-          count_is = count;
+          is = cc;
           samples_are =
               (λ i. take ((count ∙ sym all) i) ((lent ∙ ap (λ (xs : List Float). over xs before) read) i))
               ∙ first_over (map sample_of f.samples) before (omega (arith, all, few_samples line f m));
         }
 
-  pub frame_of : (v : ℕ) (p : Float) (l : SpeechLevel) (n : ℕ) → most_samples ≤ length before → ParsedAs line before after (Frame v p l n) → FrameOf line after v p l n
-  frame_of v p l n room r = frame_if v p l n room r.lent_is (meaning line) refl r.answer_is
+  pub told_frame : (r : Option Frame) (frame : Frame) → most_samples ≤ length before → ParsedAs line before after r → r ≡ Some frame → FrameOf line after frame
+  told_frame r frame room p e = frame_if frame room p.lent_is (meaning line) refl (sym e ∙ p.answer_is)

@@ -5,12 +5,12 @@ use mathlib.Core.List.{List, [], ◌∷◌, ◌++◌}
 use Prim.Native.Nat.{ℕ, suc, ◌+◌, ◌*◌, ◌-◌, ◌≤◌, ◌<◌}
 use native.Mathlib.Numerals.{add-one}
 use native.Mathlib.Omega.{arith}
-use lib.ListN.{length, get_or, take, drop, take-append-drop}
-use lib.Seq.{drop-cons, take-suc, take-add, drop-drop}
+use lib.ListN.{length, get_or, take, drop, length-drop}
+use lib.Seq.{drop-cons, take-suc, take-add, take_all, drop-drop}
 use Rattle.frame_lines.specs.Digits.{is_digit, digit, are_digits, number_after, number}
 use Rattle.frame_lines.specs.Samples.{four}
 use Rattle.frame_lines.specs.Line.{part}
-use Rattle.frame_lines.specs.declared.line.Word.TheVariants.{Malformed, Number}
+use Rattle.std.specs.Prelude.{Some, None}
 use Rattle.frame_lines.specs.Reading.{word_at}
 use Rattle.frame_lines.proofs.Tests.{Both, both}
 
@@ -37,6 +37,10 @@ module _ (l : List ℕ) (i : ℕ) where
 pub lent_part : (l : List ℕ) (i n : ℕ) → take (i + n - i) (drop i l) ≡ part l i n
 lent_part l i n = let k : i + n - i ≡ n = omega arith in ap (λ (m : ℕ). take m (drop i l)) k
 
+-- what is lent from a place on is all that is left
+pub lent_rest : (l : List ℕ) (i : ℕ) → take (length l - i) (drop i l) ≡ drop i l
+lent_rest l i = take_all (length l - i) (drop i l) (omega (arith, length-drop i l))
+
 -- ---- digits alone
 
 and_assoc : (t u v : Bool) {w : Bool} → w ≡ u && v → (t && w) ≡ ((t && u) && v)
@@ -47,12 +51,6 @@ pub digits_append : (xs ys : List ℕ) → are_digits (xs ++ ys) ≡ are_digits 
 unfolding are_digits
 digits_append [] ys = refl
 digits_append (x ∷ xs) ys = and_assoc (is_digit x) (are_digits xs) (are_digits ys) (digits_append xs ys)
-
-digits_cut : (i : ℕ) (t : List ℕ) → are_digits t ≡ true → Both (are_digits (take i t)) (are_digits (drop i t))
-digits_cut i t e = both _ _ (sym (ap are_digits (sym (take-append-drop i t)) ∙ digits_append (take i t) (drop i t)) ∙ e)
-
-pub digits_part : (t : List ℕ) (i n : ℕ) → are_digits t ≡ true → are_digits (part t i n) ≡ true
-digits_part t i n e = (digits_cut n (drop i t) (digits_cut i t e).second).first
 
 -- one more
 pub digits_more : (t : List ℕ) (i : ℕ) → i < length t → (are_digits (take i t) && is_digit (get_or t i 0)) ≡ are_digits (take (i + 1) t)
@@ -80,7 +78,7 @@ module _ (l : List ℕ) (i : ℕ) where
   pub halves_digits : are_digits (part l i 8) ≡ true → Both (are_digits (part l i 4)) (are_digits (part l (i + 4) 4))
   halves_digits e = both _ _ (sym (ap are_digits halves ∙ digits_append (part l i 4) (part l (i + 4) 4)) ∙ e)
 
-  pub word_lost : are_digits (part l i 8) ≡ false → Malformed ≡ word_at l i
+  pub word_lost : are_digits (part l i 8) ≡ false → None ≡ word_at l i
   unfolding word_at
   word_lost e = simp e
 
@@ -91,6 +89,6 @@ module _ (l : List ℕ) (i : ℕ) where
         ap number halves ∙ number_append 0 (part l i 4) (part l (i + 4) 4) ∙ ap (number_after (number (part l i 4))) low
         ∙ after_four (number (part l i 4)) _ _ _ _ ∙ ap (λ (t : List ℕ). number (part l i 4) * 65536 + number t) (sym low)
 
-    pub word_kept : are_digits (part l i 8) ≡ true → Number (number (part l i 4) * 65536 + number (part l (i + 4) 4)) ≡ word_at l i
+    pub word_kept : are_digits (part l i 8) ≡ true → Some (number (part l i 4) * 65536 + number (part l (i + 4) 4)) ≡ word_at l i
     unfolding word_at
     word_kept e = simp (e, eight_number)

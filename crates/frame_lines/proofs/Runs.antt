@@ -2,11 +2,11 @@
 use mathlib.Core.Path.{◌≡◌, refl, sym, ap, ◌∙◌}
 use mathlib.Core.Bool.{Bool}
 use mathlib.Core.List.{List, [], ◌∷◌, ◌++◌, flatten}
-use mathlib.Core.Option.{Option, none, some}
 use Prim.Native.Nat.{ℕ, suc, ◌+◌, ◌-◌, ◌≤◌, ◌<◌}
 use native.Mathlib.Omega.{arith}
 use lib.ListN.{length, take, length-take}
 use borrow.Author.Tests.{le-leb}
+use Rattle.std.specs.Prelude.{Option, None, Some}
 use Rattle.frame_lines.specs.declared.lines.Begun.{Begun}
 use Rattle.frame_lines.specs.declared.respelling.Fed.{Fed}
 use Rattle.frame_lines.specs.Search.{first_of}
@@ -55,15 +55,15 @@ used_some_if room piece [] e h k = omega (arith, ap (λ (t : Bool). used_if t (l
 used_some_if room piece (line ∷ lines) e h k = omega (arith, ap (λ (t : Bool). used_if t (suc (length line) + used_from (room - length (text_of_line line)) lines (begun piece))) (le-leb longest_respelling room h))
 
 end_some : (o : Option ℕ) (piece : List ℕ) → 0 < length piece → 0 < up_to_feed o piece
-end_some none piece h = h
-end_some (some n) piece h = omega arith
+end_some None piece h = h
+end_some (Some n) piece h = omega arith
 
 used_some : (k piece out : List ℕ) → longest_respelling ≤ length out → 0 < length piece → 0 < used_of k piece out
 used_some [] piece out h m = used_some_if (length out) piece (ended piece) refl h m
 used_some (b ∷ k) piece out h m = omega (arith, ap (λ (t : Bool). used_if t (up_to_feed (first_of 10 piece) piece)) (le-leb longest_respelling (length out) h), end_some (first_of 10 piece) piece m)
 
 module _ (k piece before after : List ℕ) (r : Fed) (f : FedAs k piece before after r) where
-  -- with room for the longest answer some of a piece is used
+  -- with room for the longest answer Some of a piece is used
   pub some_used : longest_respelling ≤ length before → 0 < length piece → 0 < r.used
   some_used h m = omega (arith, f.used_is, used_some k piece before h m)
 

@@ -1,41 +1,24 @@
 -- A text of samples: how far it is read at each turn, where it stops, and whether that is the text's end. Assumes nothing.
 use mathlib.Core.Path.{◌≡◌, refl, sym, ap, ◌∙◌}
-use mathlib.Core.Bool.{Bool, true, false, ◌&&◌}
-use mathlib.Core.List.{List, [], ◌∷◌, ◌++◌, map, append_assoc, append-nil, map-append}
-use Prim.Native.Nat.{ℕ, suc, ◌+◌, ◌*◌, ◌/◌, ◌%◌, ◌≤◌, ◌<◌}
+use mathlib.Core.Bool.{Bool, true, false, not, cond, ◌&&◌}
+use mathlib.Core.List.{List, [], ◌∷◌, ◌++◌, map}
+use Prim.Native.Nat.{ℕ, zero, suc, ◌+◌, ◌*◌, ◌/◌, ◌%◌, ◌≤◌, ◌<◌, min}
+use native.Mathlib.Numerals.{add-one}
 use native.Mathlib.Omega.{arith}
 use lib.Ieee.{Float}
-use lib.IntN.{ℤ}
-use lib.ListN.{length, take, drop, set, length-append, length-map, length-drop}
-use lib.Seq.{drop-drop}
+use lib.IntN.{ℤ, pos}
+use lib.ListN.{length, get_or, take, set, length-map}
+use lib.Seq.{length-take-le, take-suc}
+use Rattle.std.specs.List.{position_or_len}
 use Rattle.numbers.proofs.Signs.{clash}
-use Rattle.frame_lines.specs.Digits.{are_digits, number}
+use Rattle.frame_lines.specs.Digits.{is_digit, are_digits, number}
 use Rattle.frame_lines.specs.Samples.{four, signed16, are_samples, sample_if, samples_in}
 use Rattle.frame_lines.specs.Line.{part}
 use Rattle.frame_lines.specs.Parsed.{sample_of, over}
-use Rattle.frame_lines.specs.Reading.{ReadAs}
 use Rattle.frame_lines.proofs.Tests.{both, false_unless, true_unless}
 use Rattle.frame_lines.proofs.Parts.{digits_append}
 
 -- ---- the text by fours
-
--- fewer than four characters have no sample
-pub samples_short : (t : List ℕ) → length t < 4 → samples_in t ≡ []
-unfolding samples_in
-samples_short [] h = refl
-samples_short (a ∷ []) h = refl
-samples_short (a ∷ b ∷ []) h = refl
-samples_short (a ∷ b ∷ c ∷ []) h = refl
-samples_short (a ∷ b ∷ c ∷ d ∷ t) h = absurd (omega arith)
-
--- four or more have what the first four say
-samples_four : (t : List ℕ) → 4 ≤ length t → samples_in t ≡ sample_if (are_digits (take 4 t)) (number (take 4 t)) (samples_in (drop 4 t))
-unfolding samples_in
-samples_four [] h = absurd (omega arith)
-samples_four (a ∷ []) h = absurd (omega arith)
-samples_four (a ∷ b ∷ []) h = absurd (omega arith)
-samples_four (a ∷ b ∷ c ∷ []) h = absurd (omega arith)
-samples_four (a ∷ b ∷ c ∷ d ∷ t) h = refl
 
 -- a text that goes by fours of digits to its end has a sample for each four, and another has fewer
 whole_if : (t : Bool) (n : ℕ) (xs : List ℤ) (k : ℕ) (u : Bool) → (u ≡ true → length xs * 4 ≡ k) → (t && u) ≡ true → length (sample_if t n xs) * 4 ≡ suc (suc (suc (suc k)))
@@ -111,6 +94,76 @@ fours t = fours_if (are_samples t) refl
     fours_if true e = omega (arith, whole t e)
     fours_if false e = omega (arith, less t e)
 
+-- ---- how many a text has, by where its first other character stands
+
+abbrev pub other : ℕ → Bool
+other c = not (is_digit c)
+
+count_if : (t u v w : Bool) (n k : ℕ) (xs : List ℤ) → length xs ≡ k / 4
+    → length (sample_if (t && (u && (v && (w && true)))) n xs) ≡ cond (not (not t)) (1 + cond (not (not u)) (1 + cond (not (not v)) (1 + cond (not (not w)) (1 + k) 0) 0) 0) 0 / 4
+count_if true true true true n k xs e = omega arith
+count_if true true true false n k xs e = refl
+count_if true true false w n k xs e = refl
+count_if true false v w n k xs e = refl
+count_if false u v w n k xs e = refl
+
+short_if : (t u v : Bool) → 0 ≡ cond (not (not t)) (1 + cond (not (not u)) (1 + cond (not (not v)) 1 0) 0) 0 / 4
+short_if true true true = refl
+short_if true true false = refl
+short_if true false v = refl
+short_if false u v = refl
+
+pub count_before : (t : List ℕ) → length (samples_in t) ≡ position_or_len other t / 4
+unfolding samples_in are_digits
+count_before [] = refl
+count_before (a ∷ []) = short_if (is_digit a) false false
+count_before (a ∷ b ∷ []) = short_if (is_digit a) (is_digit b) false
+count_before (a ∷ b ∷ c ∷ []) = short_if (is_digit a) (is_digit b) (is_digit c)
+count_before (a ∷ b ∷ c ∷ d ∷ t) = count_if (is_digit a) (is_digit b) (is_digit c) (is_digit d) (number (four a b c d)) (position_or_len other t) (samples_in t) (count_before t)
+
+-- digits alone have none
+pub none_before : (t : List ℕ) → are_digits t ≡ true → position_or_len other t ≡ length t
+unfolding are_digits
+none_before [] e = refl
+none_before (c ∷ t) e =
+    let p = both (is_digit c) (are_digits t) e in
+    ap (λ (u : Bool). cond (not (not u)) (1 + position_or_len other t) 0) p.first ∙ omega (arith, none_before t p.second)
+
+-- ---- one of them
+
+-- the digits of the one at n, and what they make
+pub record SampleAt (t : List ℕ) (n : ℕ) : Type 0 where
+  pub digits : are_digits (part t (n * 4) 4) ≡ true
+  pub is : get_or (map sample_of (samples_in t)) n (sample_of (pos 0)) ≡ sample_of (signed16 (number (part t (n * 4) 4)))
+
+first_sample : (a b c d : ℕ) (t : List ℕ) (u : Bool) → are_digits (four a b c d) ≡ u → 0 < length (sample_if u (number (four a b c d)) (samples_in t))
+    → (u ≡ true) × (get_or (map sample_of (sample_if u (number (four a b c d)) (samples_in t))) 0 (sample_of (pos 0)) ≡ sample_of (signed16 (number (four a b c d))))
+first_sample a b c d t true e h = (refl, refl)
+first_sample a b c d t false e h = absurd (omega arith)
+
+later_sample : (m n : ℕ) (xs : List ℤ) (u : Bool) → suc n < length (sample_if u m xs) → (n < length xs) × (get_or (map sample_of (sample_if u m xs)) (suc n) (sample_of (pos 0)) ≡ get_or (map sample_of xs) n (sample_of (pos 0)))
+later_sample m n xs true h = (omega arith, refl)
+later_sample m n xs false h = absurd (omega arith)
+
+pub sample_at : (t : List ℕ) (n : ℕ) → n < length (samples_in t) → SampleAt t n
+unfolding samples_in
+sample_at [] n h = absurd (omega arith)
+sample_at (a ∷ []) n h = absurd (omega arith)
+sample_at (a ∷ b ∷ []) n h = absurd (omega arith)
+sample_at (a ∷ b ∷ c ∷ []) n h = absurd (omega arith)
+sample_at (a ∷ b ∷ c ∷ d ∷ t) zero h =
+    let f = first_sample a b c d t (are_digits (four a b c d)) refl h in
+    record { digits = f.0; is = f.1 }
+sample_at (a ∷ b ∷ c ∷ d ∷ t) (suc n) h =
+    let l = later_sample (number (four a b c d)) n (samples_in t) (are_digits (four a b c d)) h in
+    let r = sample_at t n l.0 in
+    let k : suc n * 4 ≡ suc (suc (suc (suc (n * 4)))) = omega arith in
+    let same : part (a ∷ b ∷ c ∷ d ∷ t) (suc n * 4) 4 ≡ part t (n * 4) 4 = ap (λ (i : ℕ). part (a ∷ b ∷ c ∷ d ∷ t) i 4) k in
+    record {
+      digits = ap are_digits same ∙ r.digits;
+      is = l.1 ∙ r.is ∙ ap (λ (x : List ℕ). sample_of (signed16 (number x))) (sym same);
+    }
+
 -- ---- the lent slice
 
 -- one sample more, which falls away where there is no place for it
@@ -121,70 +174,41 @@ over_more [] (y ∷ ys) x = refl
 over_more (a ∷ xs) [] x = refl
 over_more (a ∷ xs) (y ∷ ys) x = ap (λ (l : List Float). a ∷ l) (over_more xs ys x)
 
-length_over : (xs ys : List Float) → length (over xs ys) ≡ length ys
+pub length-over : (xs ys : List Float) → length (over xs ys) ≡ length ys
 unfolding over
-length_over [] ys = refl
-length_over (x ∷ xs) [] = refl
-length_over (x ∷ xs) (y ∷ ys) = ap suc (length_over xs ys)
+length-over [] ys = refl
+length-over (x ∷ xs) [] = refl
+length-over (x ∷ xs) (y ∷ ys) = ap suc (length-over xs ys)
 
--- ---- the turns
+-- those for which there is a place are all that count
+over_cut : (n : ℕ) (xs ys : List Float) → n ≡ min (length xs) (length ys) → over (take n xs) ys ≡ over xs ys
+unfolding over
+over_cut n [] ys e = let k : n ≡ 0 = omega arith in ap (λ (m : ℕ). over (take m []) ys) k
+over_cut n (x ∷ xs) [] e = let k : n ≡ 0 = omega arith in ap (λ (m : ℕ). over (take m (x ∷ xs)) []) k
+over_cut zero (x ∷ xs) (y ∷ ys) e = absurd (omega arith)
+over_cut (suc n) (x ∷ xs) (y ∷ ys) e = ap (λ (l : List Float). x ∷ l) (over_cut n xs ys (omega arith))
 
-module _ (text : List ℕ) (i j : ℕ) (e : j ≡ i + 4) (h : j ≤ length text) where
-  here : samples_in (drop i text) ≡ sample_if (are_digits (part text i 4)) (number (part text i 4)) (samples_in (drop j text))
-  here =
-      samples_four (drop i text) (omega (arith, length-drop i text))
-      ∙ ap (λ (t : List ℕ). sample_if (are_digits (part text i 4)) (number (part text i 4)) (samples_in t)) (drop-drop 4 i text ∙ ap (λ (k : ℕ). drop k text) (sym e))
+-- ---- the turns: the first n samples were read
 
-  one_more : are_digits (part text i 4) ≡ true → samples_in (drop i text) ≡ signed16 (number (part text i 4)) ∷ samples_in (drop j text)
-  one_more d = here ∙ ap (λ (t : Bool). sample_if t (number (part text i 4)) (samples_in (drop j text))) d
-
-  no_more : are_digits (part text i 4) ≡ false → samples_in (drop i text) ≡ []
-  no_more d = here ∙ ap (λ (t : Bool). sample_if t (number (part text i 4)) (samples_in (drop j text))) d
-
--- of a text the first n samples are `read`, and stand in the first places of `now` that held `before`
-pub record Reached (text : List ℕ) (before now : List Float) (n : ℕ) : Type 0 where
-  pub read : List ℤ
-  pub within : n ≤ length text / 4
-  pub count : length read ≡ n
-  pub so_far : samples_in text ≡ read ++ samples_in (drop (n * 4) text)
-  pub lent : now ≡ over (map sample_of read) before
+abbrev pub read_first : List ℕ → List Float → ℕ → List Float
+read_first text before n = over (take n (map sample_of (samples_in text))) before
 
 module _ (text : List ℕ) (before : List Float) where
-  pub starts : Reached text before before 0
+  pub none_read : before ≡ read_first text before 0
   unfolding over
-  starts = record { read = []; within = omega arith; count = refl; so_far = refl; lent = refl }
+  none_read = refl
 
-  module _ (now : List Float) (n : ℕ) (r : Reached text before now n) where
-    pub same_length : length now ≡ length before
-    same_length = ap length r.lent ∙ length_over (map sample_of r.read) before
+  pub one_read : (now : List Float) (n : ℕ) → now ≡ read_first text before n → n < length (samples_in text) → (x : Float) → x ≡ sample_of (signed16 (number (part text (n * 4) 4)))
+      → set now n x ≡ read_first text before (n + 1)
+  one_read now n e h x p =
+      let xs = map sample_of (samples_in text) in
+      let l : n < length xs = omega (arith, length-map (samples_in text) sample_of) in
+      let first : length (take n xs) ≡ n = length-take-le n xs (omega arith) in
+      (λ i. set (e i) n ((p ∙ sym (sample_at text n h).is) i))
+      ∙ ap (λ (k : ℕ). set (over (take n xs) before) k (get_or xs n (sample_of (pos 0)))) (sym first)
+      ∙ sym (over_more (take n xs) before (get_or xs n (sample_of (pos 0))))
+      ∙ ap (λ (ys : List Float). over ys before) (sym (take-suc xs n (sample_of (pos 0)) l))
+      ∙ ap (read_first text before) (sym (add-one n))
 
-    -- where the samples end, all are read
-    ended : samples_in (drop (n * 4) text) ≡ [] → ReadAs text before now n
-    ended e =
-        let all : r.read ≡ samples_in text = sym (r.so_far ∙ ap (λ (xs : List ℤ). r.read ++ xs) e ∙ append-nil r.read) in
-        record { count_is = sym r.count ∙ ap length all; lent_is = r.lent ∙ ap (λ (xs : List ℤ). over (map sample_of xs) before) all }
-
-    pub ends : length text / 4 ≤ n → ReadAs text before now n
-    ends h = ended (samples_short (drop (n * 4) text) (omega (arith, length-drop (n * 4) text)))
-
-    module _ (h : n < length text / 4) where
-      pub stops : are_digits (part text (n * 4) 4) ≡ false → ReadAs text before now n
-      stops d = ended (no_more text (n * 4) ((n + 1) * 4) (omega arith) (omega arith) d)
-
-      pub goes_on : (x : Float) → are_digits (part text (n * 4) 4) ≡ true → x ≡ sample_of (signed16 (number (part text (n * 4) 4))) → Reached text before (set now n x) (n + 1)
-      goes_on x d e =
-          let z = signed16 (number (part text (n * 4) 4)) in
-          let next = (n + 1) * 4 in
-          record {
-            read = r.read ++ z ∷ [];
-            within = omega arith;
-            count = length-append r.read (z ∷ []) ∙ ap (λ (k : ℕ). k + 1) r.count;
-            so_far = r.so_far ∙ ap (λ (xs : List ℤ). r.read ++ xs) (one_more text (n * 4) next (omega arith) (omega arith) d) ∙ sym (append_assoc r.read (z ∷ []) (samples_in (drop next text)));
-            lent =
-                (λ j. set (r.lent j) (count_of j) (e j))
-                ∙ sym (over_more (map sample_of r.read) before (sample_of z))
-                ∙ ap (λ (xs : List Float). over xs before) (sym (map-append sample_of r.read (z ∷ [])));
-          }
-        where
-          count_of : n ≡ length (map sample_of r.read)
-          count_of = sym r.count ∙ sym (length-map r.read sample_of)
+  pub all_read : (now : List Float) (n : ℕ) → now ≡ read_first text before n → n ≡ min (length (samples_in text)) (length before) → now ≡ over (map sample_of (samples_in text)) before
+  all_read now n e h = e ∙ over_cut n (map sample_of (samples_in text)) before (omega (arith, length-map (samples_in text) sample_of))

@@ -1,57 +1,58 @@
--- The search for a byte, place by place, and what its answer tells. Assumes nothing.
+-- What the search for a byte comes to, by the bytes on the way, and what its answer tells. Assumes nothing.
 use mathlib.Core.Path.{◌≡◌, refl, sym, ap, ◌∙◌}
-use mathlib.Core.Bool.{Bool, false, ◌||◌}
-use mathlib.Core.List.{List}
-use mathlib.Core.Option.{Option, none, some}
-use Prim.Native.Nat.{ℕ, suc, ◌+◌, ◌-◌, ◌≤◌, ◌<◌}
+use mathlib.Core.Bool.{Bool}
+use mathlib.Core.List.{List, [], ◌∷◌}
+use Prim.Native.Nat.{ℕ, zero, suc, ◌+◌, ◌-◌, ◌≤◌, ◌<◌}
 use native.Mathlib.Omega.{arith}
-use lib.Dec.{eqb}
 use lib.ListN.{length, get_or, drop, drop_of_length-le}
-use borrow.Author.Tests.{eq-eqb, ne_eqb, eqb-false}
-use Rattle.frame_lines.specs.declared.search.Place.TheVariants.{At, Nowhere}
+use borrow.Author.Tests.{eq-eqb, eqb-true, ne_eqb}
+use Rattle.std.specs.Prelude.{Some, None, Option}
+use Rattle.memchr.specs.Find.{IsFirstByte, is_byte}
 use Rattle.frame_lines.specs.Search.{behind_if, here_if, first_of, place_from, place_of}
-use Rattle.frame_lines.proofs.Tests.{neither}
-use Rattle.frame_lines.proofs.Parts.{behind}
 
-next_place : (i : ℕ) (o : Option ℕ) → place_from (i + 1) o ≡ place_from i (behind_if o)
-next_place i none = refl
-next_place i (some n) = let k : i + 1 + n ≡ i + suc n = omega arith in ap At k
+-- by the bytes that stand before it
+pub first_is : (wanted : ℕ) (text : List ℕ) (n : ℕ) → n < length text → ((k : ℕ) → k < n → get_or text k 0 ≡ wanted → ⊥) → get_or text n 0 ≡ wanted → first_of wanted text ≡ Some n
+unfolding first_of
+first_is wanted [] n h f e = absurd (omega arith)
+first_is wanted (b ∷ text) zero h f e = ap (λ (t : Bool). here_if t (first_of wanted text)) (eq-eqb b wanted e)
+first_is wanted (b ∷ text) (suc n) h f e =
+    ap (λ (t : Bool). here_if t (first_of wanted text)) (ne_eqb b wanted (f 0 (omega arith)))
+    ∙ ap behind_if (first_is wanted text n (omega arith) (λ k l. f (suc k) (omega arith)) e)
 
-module _ (wanted : ℕ) (bytes : List ℕ) (i : ℕ) where
-  pub byte_here : i < length bytes → get_or bytes i 0 ≡ wanted → At i ≡ place_of wanted bytes i
-  unfolding place_of first_of
-  byte_here h e =
-      let k : i ≡ i + 0 = omega arith in
-      ap At k ∙ sym (ap (λ (t : List ℕ). place_from i (first_of wanted t)) (behind bytes i (i + 1) refl h) ∙ ap (λ (t : Bool). place_from i (here_if t (first_of wanted (drop (i + 1) bytes)))) (eq-eqb _ _ e))
+pub none_is : (wanted : ℕ) (text : List ℕ) → ((k : ℕ) → k < length text → get_or text k 0 ≡ wanted → ⊥) → first_of wanted text ≡ None
+unfolding first_of
+none_is wanted [] f = refl
+none_is wanted (b ∷ text) f =
+    ap (λ (t : Bool). here_if t (first_of wanted text)) (ne_eqb b wanted (f 0 (omega arith)))
+    ∙ ap behind_if (none_is wanted text (λ k l. f (suc k) (omega arith)))
 
-  pub byte_on : i < length bytes → (get_or bytes i 0 ≡ wanted → ⊥) → place_of wanted bytes (i + 1) ≡ place_of wanted bytes i
-  unfolding place_of first_of
-  byte_on h e =
-      next_place i (first_of wanted (drop (i + 1) bytes))
-      ∙ sym (ap (λ (t : List ℕ). place_from i (first_of wanted t)) (behind bytes i (i + 1) refl h) ∙ ap (λ (t : Bool). place_from i (here_if t (first_of wanted (drop (i + 1) bytes)))) (ne_eqb _ _ e))
+-- by what `memchr` says of the bytes from a place on
+module _ (wanted : ℕ) (bytes : List ℕ) (start : ℕ) (rest : List ℕ) (is : rest ≡ drop start bytes) where
+  pub place_found : (n : ℕ) → IsFirstByte (is_byte wanted) rest (Some n) → Some (start + n) ≡ place_of wanted bytes start
+  unfolding place_of
+  place_found n f =
+      let here : get_or rest n 0 ≡ wanted = eqb-true (get_or rest n 0) wanted f.1 in
+      ap (place_from start) (sym (first_is wanted rest n f.0.high (λ k h e. f.0.before k (omega arith) h (eq-eqb (get_or rest k 0) wanted e)) here) ∙ ap (first_of wanted) is)
 
-  pub byte_nowhere : length bytes ≤ i → Nowhere ≡ place_of wanted bytes i
-  unfolding place_of first_of
-  byte_nowhere h = sym (ap (λ (t : List ℕ). place_from i (first_of wanted t)) (drop_of_length-le bytes h))
+  pub place_lost : IsFirstByte (is_byte wanted) rest None → None ≡ place_of wanted bytes start
+  unfolding place_of
+  place_lost f = ap (place_from start) (sym (none_is wanted rest (λ k h e. f k (omega arith) h (eq-eqb (get_or rest k 0) wanted e))) ∙ ap (first_of wanted) is)
 
--- one byte more is passed over, where the tests so far tell it of i
-pub pass_on : (wanted : ℕ) (bytes : List ℕ) (start i : ℕ) (t : Bool) → start + i < length bytes → (t ≡ false → place_of wanted bytes (start + i) ≡ place_of wanted bytes start)
-    → (t || eqb (get_or bytes (start + i) 0) wanted) ≡ false → place_of wanted bytes (start + (i + 1)) ≡ place_of wanted bytes start
-pass_on wanted bytes start i t h f e =
-    let n = neither t (eqb (get_or bytes (start + i) 0) wanted) e in
-    let k : start + (i + 1) ≡ start + i + 1 = omega arith in
-    ap (place_of wanted bytes) k ∙ byte_on wanted bytes (start + i) h (eqb-false (get_or bytes (start + i) 0) wanted n.second) ∙ f n.first
+-- behind the end there is nothing
+pub place_behind : (wanted : ℕ) (bytes : List ℕ) (start : ℕ) → length bytes ≤ start → None ≡ place_of wanted bytes start
+unfolding place_of first_of
+place_behind wanted bytes start h = sym (ap (λ (t : List ℕ). place_from start (first_of wanted t)) (drop_of_length-le bytes h))
 
 -- ---- what it tells
 
-pub found_if : (start e : ℕ) (o : Option ℕ) → place_from start o ≡ At e → o ≡ some (e - start)
-found_if start e none p = let z : ◌≡◌ {A = ℕ} 0 1 = cc in absurd (omega arith)
-found_if start e (some n) p = let k : start + n ≡ e = cc in let m : n ≡ e - start = omega arith in ap some m
+pub found_if : (start e : ℕ) (o : Option ℕ) → place_from start o ≡ Some e → o ≡ Some (e - start)
+found_if start e None p = let z : ◌≡◌ {A = ℕ} 0 1 = cc in absurd (omega arith)
+found_if start e (Some n) p = let k : start + n ≡ e = cc in let m : n ≡ e - start = omega arith in ap Some m
 
-pub least_if : (start e : ℕ) (o : Option ℕ) → place_from start o ≡ At e → start ≤ e
-least_if start e none p = let z : ◌≡◌ {A = ℕ} 0 1 = cc in absurd (omega arith)
-least_if start e (some n) p = let k : start + n ≡ e = cc in omega arith
+pub least_if : (start e : ℕ) (o : Option ℕ) → place_from start o ≡ Some e → start ≤ e
+least_if start e None p = let z : ◌≡◌ {A = ℕ} 0 1 = cc in absurd (omega arith)
+least_if start e (Some n) p = let k : start + n ≡ e = cc in omega arith
 
-pub lost_if : (start : ℕ) (o : Option ℕ) → place_from start o ≡ Nowhere → o ≡ none
-lost_if start none p = refl
-lost_if start (some n) p = let z : ◌≡◌ {A = ℕ} 0 1 = cc in absurd (omega arith)
+pub lost_if : (start : ℕ) (o : Option ℕ) → place_from start o ≡ None → o ≡ None
+lost_if start None p = refl
+lost_if start (Some n) p = let z : ◌≡◌ {A = ℕ} 0 1 = cc in absurd (omega arith)

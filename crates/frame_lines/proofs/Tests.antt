@@ -1,6 +1,6 @@
 -- Tests that are joined: what a Bool of two says of each. Assumes nothing.
 use mathlib.Core.Path.{◌≡◌, refl, sym}
-use mathlib.Core.Bool.{Bool, true, false, ◌&&◌, ◌||◌}
+use mathlib.Core.Bool.{Bool, true, false, ◌&&◌}
 use Rattle.numbers.proofs.Signs.{clash}
 
 pub record Both (a b : Bool) : Type 0 where
@@ -22,11 +22,3 @@ false_unless false h = refl
 pub true_unless : (t : Bool) → (t ≡ false → ⊥) → t ≡ true
 true_unless true h = refl
 true_unless false h = absurd (h refl)
-
-pub record Neither (a b : Bool) : Type 0 where
-  pub first : a ≡ false
-  pub second : b ≡ false
-
-pub neither : (a b : Bool) → (a || b) ≡ false → Neither a b
-neither true b e = clash e
-neither false b e = record { first = refl; second = e }

@@ -2,15 +2,15 @@
 use mathlib.Core.Path.{◌≡◌, refl, sym, ap, ◌∙◌}
 use mathlib.Core.Bool.{Bool, true, false}
 use mathlib.Core.List.{List, [], ◌∷◌, map}
-use mathlib.Core.Option.{none, some}
 use Prim.Native.Nat.{ℕ, zero, suc, ◌≤◌, ◌<◌}
 use native.Mathlib.Omega.{arith}
 use lib.Dec.{leb, ltb, eqb}
 use lib.ListN.{length, take, drop, length-append, length-map}
 use lib.Seq.{length-take-le, take-append-le}
 use borrow.Author.Tests.{le-leb, lt-leb, lt-ltb, le-ltb}
-use Rattle.frame_lines.specs.declared.spelling.Respelled.{Respelled}
-use Rattle.frame_lines.specs.declared.spelling.Respelled.TheVariants.{Malformed, NoRoom, Spelled}
+use Rattle.std.specs.Prelude.{Result, Ok, Err, None, Some}
+use Rattle.frame_lines.specs.declared.spelling.Unspelled.{Unspelled}
+use Rattle.frame_lines.specs.declared.spelling.Unspelled.TheVariants.{Malformed, NoRoom}
 use Rattle.frame_lines.specs.declared.spelling.Walked.{Walked}
 use Rattle.frame_lines.specs.Line.{is_well_formed, Fields, fields_of}
 use Rattle.frame_lines.specs.Answer.{laid}
@@ -25,25 +25,22 @@ use Rattle.frame_lines.proofs.Walking.{opened}
 
 -- nothing is put
 module _ (line before : List ℕ) (s r : Bool) (p : leb (length line) 2000 ≡ s) (q : ltb (length line) (length before) ≡ r) where
-  untried : (a : Respelled) → a ≡ respelled_if s r line → tried_if s r line ≡ [] → ((n : ℕ) → a ≡ Spelled n → ⊥) → RespelledAs line before before a
+  untried : (a : Result ℕ Unspelled) → a ≡ respelled_if s r line → tried_if s r line ≡ [] → ((n : ℕ) → a ≡ Ok n → ⊥) → RespelledAs line before before a
   untried a e t apart = record {
     answer_is = e ∙ (λ i. respelled_if (sym p i) (sym q i) line);
     lent_is = ap (λ (x : List ℕ). laid x before) (sym t) ∙ (λ i. laid (tried_if (sym p i) (sym q i) line) before);
     spelled = λ f n m k. absurd (apart n k);
   }
 
-malformed_apart : (n : ℕ) → Malformed ≡ Spelled n → ⊥
-malformed_apart n e = let z : ◌≡◌ {A = ℕ} 0 1 = cc in omega arith
-
-no_room_apart : (n : ℕ) → NoRoom ≡ Spelled n → ⊥
-no_room_apart n e = let z : ◌≡◌ {A = ℕ} 0 1 = cc in omega arith
+err_apart : (u : Unspelled) (n : ℕ) → ◌≡◌ {A = Result ℕ Unspelled} (Err u) (Ok n) → ⊥
+err_apart u n e = let z : ◌≡◌ {A = ℕ} 0 1 = cc in omega arith
 
 module _ (line before : List ℕ) where
-  pub too_long : 2000 < length line → RespelledAs line before before Malformed
-  too_long h = untried line before false (ltb (length line) (length before)) (lt-leb (length line) 2000 h) refl Malformed refl refl malformed_apart
+  pub too_long : 2000 < length line → RespelledAs line before before (Err Malformed)
+  too_long h = untried line before false (ltb (length line) (length before)) (lt-leb (length line) 2000 h) refl (Err Malformed) refl refl (err_apart Malformed)
 
-  pub no_room : length line ≤ 2000 → length before ≤ length line → RespelledAs line before before NoRoom
-  no_room h k = untried line before true false (le-leb (length line) 2000 h) (le-ltb (length line) (length before) k) NoRoom refl refl no_room_apart
+  pub no_room : length line ≤ 2000 → length before ≤ length line → RespelledAs line before before (Err NoRoom)
+  no_room h k = untried line before true false (le-leb (length line) 2000 h) (le-ltb (length line) (length before) k) (Err NoRoom) refl refl (err_apart NoRoom)
 
 -- ---- a line that is tried
 
@@ -86,7 +83,7 @@ module _ (line before after : List ℕ) (r : Walked) (w : WalkedAs line before a
 
   module _ (short : length line ≤ 2000) (room : length line < length before) where
     -- by what the reader says
-    tried : (a : Respelled) → a ≡ taken_if (lenient_meaning line) → ((f : Fields) (m : ℕ) → lenient_meaning line ≡ some f → a ≡ Spelled m → take m after ≡ spelling f) → RespelledAs line before after a
+    tried : (a : Result ℕ Unspelled) → a ≡ taken_if (lenient_meaning line) → ((f : Fields) (m : ℕ) → lenient_meaning line ≡ Some f → a ≡ Ok m → take m after ≡ spelling f) → RespelledAs line before after a
     tried a q s =
         let long = le-leb (length line) 2000 short in
         let wide = lt-ltb (length line) (length before) room in
@@ -96,20 +93,20 @@ module _ (line before after : List ℕ) (r : Walked) (w : WalkedAs line before a
           spelled = s;
         }
 
-    pub taken : is_well_formed (take n after) ≡ true → RespelledAs line before after (Spelled n)
+    pub taken : is_well_formed (take n after) ≡ true → RespelledAs line before after (Ok n)
     taken good =
         let x = forgiven line in
         let well : is_well_formed x ≡ true = ap is_well_formed (sym first_is) ∙ good in
-        let means : lenient_meaning line ≡ some (fields_of x) = short_lenient line short ∙ meant x well in
+        let means : lenient_meaning line ≡ Some (fields_of x) = short_lenient line short ∙ meant x well in
         let spells : x ≡ spelling (fields_of x) = sym (own_spelling x well) in
-        tried (Spelled n) (ap Spelled (n_length ∙ ap length spells) ∙ ap taken_if (sym means)) (λ f m p q.
+        tried (Ok n) (ap Ok (n_length ∙ ap length spells) ∙ ap taken_if (sym means)) (λ f m p q.
         let same : n ≡ m = cc in
-        let some_is : some (fields_of x) ≡ some f = sym means ∙ p in
+        let some_is : Some (fields_of x) ≡ Some f = sym means ∙ p in
         let meant_is : fields_of x ≡ f = cc in
         ap (λ (k : ℕ). take k after) (sym same) ∙ first_is ∙ spells ∙ ap spelling meant_is)
 
-    pub refused : is_well_formed (take n after) ≡ false → RespelledAs line before after Malformed
+    pub refused : is_well_formed (take n after) ≡ false → RespelledAs line before after (Err Malformed)
     refused bad =
         let x = forgiven line in
-        let none_is : lenient_meaning line ≡ none = short_lenient line short ∙ unmeant x (ap is_well_formed (sym first_is) ∙ bad) in
-        tried Malformed (ap taken_if (sym none_is)) (λ f m p q. absurd (malformed_apart m q))
+        let none_is : lenient_meaning line ≡ None = short_lenient line short ∙ unmeant x (ap is_well_formed (sym first_is) ∙ bad) in
+        tried (Err Malformed) (ap taken_if (sym none_is)) (λ f m p q. absurd (err_apart Malformed m q))

@@ -2,14 +2,15 @@
 use mathlib.Core.Path.{◌≡◌, refl, sym, ap, subst, ◌∙◌}
 use mathlib.Core.Bool.{Bool, true, false, ◌&&◌, not}
 use mathlib.Core.List.{List, [], ◌∷◌, ◌++◌, map, append_assoc, append-nil, map-append}
-use mathlib.Core.Option.{Option, none, some}
 use Prim.Native.Nat.{ℕ, zero, suc, ◌+◌, ◌-◌, ◌≤◌, ◌<◌}
 use native.Mathlib.Omega.{arith}
-use lib.ListN.{length, get_or, take, drop, set, length-append, length-map, length-drop, drop_of_length-le, take-append-drop}
+use lib.ListN.{length, get_or, get_or-map, take, drop, set, length-append, length-map, length-drop, drop_of_length-le, take-append-drop}
 use lib.Seq.{take-append_seam, set-append_seam, drop-cons, drop-drop, take-length, drop-length, length-take-le, paste}
-use borrow.Author.Tests.{eq-eqb, ne_eqb}
+use native.Mathlib.Decide.{dec_lt}
+use borrow.Author.Tests.{eq-eqb, ne_eqb, lt-ltb, le-ltb, le-leb, lt-leb}
+use Rattle.std.specs.Char.{to_ascii_lowercase}
 use Rattle.numbers.proofs.Signs.{clash}
-use Rattle.frame_lines.specs.declared.search.Place.TheVariants.{At, Nowhere}
+use Rattle.std.specs.Prelude.{Some, None, Option}
 use Rattle.frame_lines.specs.Line.{part}
 use Rattle.frame_lines.specs.Answer.{laid}
 use Rattle.frame_lines.specs.Search.{here_if, first_of, place_of}
@@ -29,9 +30,6 @@ module _ (line : List ℕ) (i : ℕ) (h : i < length line) where
       let rest = drop (i + 1) line in
       sym (ap fields_in (behind line i (i + 1) refl h) ∙ ap (λ (t : Bool). field_if t (begins_field rest) (get_or line i 0) (fields_in rest)) (eq-eqb _ _ e))
 
-  pub field_here : (get_or line i 0 ≡ 32 → ⊥) → begins_field (drop i line) ≡ true
-  field_here e = ap begins_field (behind line i (i + 1) refl h) ∙ ap not (ne_eqb _ _ e)
-
 -- ---- to the end of a field
 
 -- a text up to its first blank
@@ -40,26 +38,26 @@ record UpToBlank (text : List ℕ) (n : ℕ) : Type 0 where
   whole : blankless (take n text) ≡ true
   ends : begins_field (drop n text) ≡ false
 
-blank_if : (c : ℕ) (text : List ℕ) (n : ℕ) (t : Bool) (o : Option ℕ) → is_space c ≡ t → first_of 32 text ≡ o → ((m : ℕ) → first_of 32 text ≡ some m → UpToBlank text m)
-    → here_if t o ≡ some n → UpToBlank (c ∷ text) n
+blank_if : (c : ℕ) (text : List ℕ) (n : ℕ) (t : Bool) (o : Option ℕ) → is_space c ≡ t → first_of 32 text ≡ o → ((m : ℕ) → first_of 32 text ≡ Some m → UpToBlank text m)
+    → here_if t o ≡ Some n → UpToBlank (c ∷ text) n
 blank_if c text n true o p q f e = let k : 0 ≡ n = cc in subst (UpToBlank (c ∷ text)) k (record { within = omega arith; whole = refl; ends = ap not p })
-blank_if c text n false none p q f e = let z : ◌≡◌ {A = ℕ} 0 1 = cc in absurd (omega arith)
-blank_if c text n false (some m) p q f e =
+blank_if c text n false None p q f e = let z : ◌≡◌ {A = ℕ} 0 1 = cc in absurd (omega arith)
+blank_if c text n false (Some m) p q f e =
     let k : suc m ≡ n = cc in
     let u = f m q in
     subst (UpToBlank (c ∷ text)) k (record { within = omega (arith, u.within); whole = λ i. not (p i) && u.whole i; ends = u.ends })
 
-up_to_blank : (text : List ℕ) (n : ℕ) → first_of 32 text ≡ some n → UpToBlank text n
+up_to_blank : (text : List ℕ) (n : ℕ) → first_of 32 text ≡ Some n → UpToBlank text n
 unfolding first_of
 up_to_blank [] n e = let z : ◌≡◌ {A = ℕ} 0 1 = cc in absurd (omega arith)
 up_to_blank (c ∷ text) n e = blank_if c text n (is_space c) (first_of 32 text) refl refl (up_to_blank text) e
 
-no_blank_if : (c : ℕ) (text : List ℕ) (t : Bool) (o : Option ℕ) → is_space c ≡ t → first_of 32 text ≡ o → (first_of 32 text ≡ none → blankless text ≡ true) → here_if t o ≡ none → blankless (c ∷ text) ≡ true
+no_blank_if : (c : ℕ) (text : List ℕ) (t : Bool) (o : Option ℕ) → is_space c ≡ t → first_of 32 text ≡ o → (first_of 32 text ≡ None → blankless text ≡ true) → here_if t o ≡ None → blankless (c ∷ text) ≡ true
 no_blank_if c text true o p q f e = let z : ◌≡◌ {A = ℕ} 0 1 = cc in absurd (omega arith)
-no_blank_if c text false none p q f e = λ i. not (p i) && f q i
-no_blank_if c text false (some m) p q f e = let z : ◌≡◌ {A = ℕ} 0 1 = cc in absurd (omega arith)
+no_blank_if c text false None p q f e = λ i. not (p i) && f q i
+no_blank_if c text false (Some m) p q f e = let z : ◌≡◌ {A = ℕ} 0 1 = cc in absurd (omega arith)
 
-no_blank : (text : List ℕ) → first_of 32 text ≡ none → blankless text ≡ true
+no_blank : (text : List ℕ) → first_of 32 text ≡ None → blankless text ≡ true
 unfolding first_of
 no_blank [] e = refl
 no_blank (c ∷ text) e = no_blank_if c text (is_space c) (first_of 32 text) refl refl (no_blank text) e
@@ -77,6 +75,21 @@ first_of_lem text n b u =
       ap fields_in (sym (take-append-drop n text)) ∙ field_first (drop n text) u.ends (take n text) full u.whole,
     )
 
+-- the standard library's small letter
+small_is : (c : ℕ) → to_ascii_lowercase c ≡ lowered c
+unfolding lowered
+small_is c = elim (dec_lt c 65) [
+  | yes h ↦ simp (lt-ltb c 65 h, lt-leb 65 c h)
+  | no h ↦ elim (dec_lt c 91) [
+    | yes k ↦ (let a : 65 ≤ c = omega arith in let b : c ≤ 90 = omega arith in simp (le-ltb c 65 a, lt-ltb c 91 k, le-leb 65 c a, le-leb c 90 b))
+    | no k ↦ (let a : 65 ≤ c = omega arith in let b : 91 ≤ c = omega arith in let d : 90 < c = omega arith in simp (le-ltb c 65 a, le-ltb c 91 b, le-leb 65 c a, lt-leb c 90 d))
+  ]
+]
+
+pub small_at : (text : List ℕ) (i : ℕ) → to_ascii_lowercase (get_or text i 0) ≡ get_or (map lowered text) i 0
+unfolding lowered
+small_at text i = small_is (get_or text i 0) ∙ sym (get_or-map lowered text i 0)
+
 begins_some : (text : List ℕ) → begins_field text ≡ true → 0 < length text
 begins_some [] e = clash (sym e)
 begins_some (c ∷ text) e = omega arith
@@ -86,7 +99,7 @@ unfolding fields_in
 all_of text b e = ap fields_in (sym (append-nil text)) ∙ field_first [] refl text (begins_some text b) e
 
 module _ (line : List ℕ) (at : ℕ) (h : at ≤ length line) where
-  pub ends_at : (e : ℕ) → place_of 32 line at ≡ At e → FieldTo line at e
+  pub ends_at : (e : ℕ) → place_of 32 line at ≡ Some e → FieldTo line at e
   unfolding place_of
   ends_at e p =
       let u = up_to_blank (drop at line) (e - at) (found_if at e (first_of 32 (drop at line)) p) in
@@ -98,7 +111,7 @@ module _ (line : List ℕ) (at : ℕ) (h : at ≤ length line) where
         field = λ b. (let f = first_of_lem (drop at line) (e - at) b u in (omega (arith, f.0), f.1 ∙ ap (λ (t : List ℕ). part line at (e - at) ∷ fields_in t) behind-it));
       }
 
-  pub ends_line : place_of 32 line at ≡ Nowhere → FieldTo line at (length line)
+  pub ends_line : place_of 32 line at ≡ None → FieldTo line at (length line)
   unfolding place_of
   ends_line p =
       let e = no_blank (drop at line) (lost_if at (first_of 32 (drop at line)) p) in
@@ -191,7 +204,7 @@ one_behind t out c h =
     ∙ sym (append_assoc t (c ∷ []) (drop (suc (length t)) out))
     ∙ ap (λ (k : ℕ). (t ++ c ∷ []) ++ drop k out) n
 
--- some fields of a line are done, and the rest are those from a place on
+-- Some fields of a line are done, and the rest are those from a place on
 pub record Walking (line out₀ out : List ℕ) (count written from : ℕ) : Type 0 where
   pub done : List (List ℕ)
   pub within : from ≤ length line

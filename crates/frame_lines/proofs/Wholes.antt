@@ -2,13 +2,12 @@
 use mathlib.Core.Path.{◌≡◌, refl, sym, ap, ◌∙◌}
 use mathlib.Core.Bool.{true}
 use mathlib.Core.List.{List, [], ◌∷◌, ◌++◌, flatten, append_assoc, append-nil}
-use mathlib.Core.Option.{Option, none, some}
 use Prim.Native.Nat.{ℕ, suc, ◌+◌, ◌-◌, ◌≤◌, ◌<◌}
 use native.Mathlib.Omega.{arith}
 use lib.ListN.{length, take, drop, length-append, length-take, length-drop, drop_of_length-le}
 use lib.Seq.{length-take-le, take-add, take-append-add, take_all, drop-append-add, drop-drop}
 use borrow.Author.Tests.{le-leb}
-use Rattle.frame_lines.specs.declared.search.Place.TheVariants.{At, Nowhere}
+use Rattle.std.specs.Prelude.{Some, None, Option}
 use Rattle.frame_lines.specs.Line.{Fields}
 use Rattle.frame_lines.specs.Answer.{decimal, number_text}
 use Rattle.frame_lines.specs.Forgiven.{lenient_meaning}
@@ -34,7 +33,7 @@ one_text line = append-nil (text_of_line line)
 
 -- ---- one line more
 
-module _ (piece : List ℕ) (at e : ℕ) (found : line_feed_from piece at ≡ At e) where
+module _ (piece : List ℕ) (at e : ℕ) (found : line_feed_from piece at ≡ Some e) where
   abbrev line : List ℕ
   line = take (e - at) (drop at piece)
 
@@ -105,8 +104,8 @@ starts piece out₀ =
 -- an answer has at least its line feed
 full_if : (o : Option Fields) → 0 < length (respelled_text o)
 unfolding respelled_text number_text decimal
-full_if none = omega arith
-full_if (some f) = omega (arith, length-append (spelling f) (10 ∷ []))
+full_if None = omega arith
+full_if (Some f) = omega (arith, length-append (spelling f) (10 ∷ []))
 
 text_full : (x : List ℕ) → 0 < length (text_of_line x)
 text_full x = full_if (lenient_meaning x)
@@ -116,12 +115,9 @@ module _ (piece out₀ out : List ℕ) (at written : ℕ) (h : SoFar piece out�
   ends stops = record { within = h.within; begins = h.begins; answers = h.answers; fits = h.fits; used_is = h.used; stops = stops }
 
   -- no line feed is found, or no room is left
-  pub none_ends : line_feed_from piece at ≡ Nowhere → WholeAs piece out₀ out (record { used = at; written = written })
+  pub none_ends : line_feed_from piece at ≡ None → WholeAs piece out₀ out (record { used = at; written = written })
   unfolding ended
   none_ends lost = ends (λ k. no_line_ends [] piece at refl lost)
-
-  pub no_room : length out - written < longest_respelling → WholeAs piece out₀ out (record { used = at; written = written })
-  no_room k = ends (λ l. absurd (omega (arith, h.same)))
 
   pub written_within : written ≤ length out
   written_within = omega (arith, h.fits, h.same)
@@ -137,7 +133,7 @@ module _ (piece out₀ out : List ℕ) (at written : ℕ) (h : SoFar piece out�
   left_length = ap length left_is ∙ length-drop written out
 
   -- a line is answered there
-  module _ (e : ℕ) (found : line_feed_from piece at ≡ At e) (more : longest_respelling ≤ length out - written) (part : List ℕ) (r : ℕ) (same : length part ≡ length left) (a : AnswersIn (text_of_line (line piece at e found)) left part r) where
+  module _ (e : ℕ) (found : line_feed_from piece at ≡ Some e) (more : longest_respelling ≤ length out - written) (part : List ℕ) (r : ℕ) (same : length part ≡ length left) (a : AnswersIn (text_of_line (line piece at e found)) left part r) where
     abbrev before : List ℕ
     before = take written out
 

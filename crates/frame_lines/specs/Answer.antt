@@ -1,8 +1,8 @@
 -- Document 01, "The frame-line program": "Output per line: volume in 2 digits, blank, `n` if near else `.`; or `!`, blank, the refusal number in decimal." A line feed ends it. Definitions only.
-use Rattle.std.specs.Prelude.{◌≡◌, Bool, true, false, List, [], ◌∷◌, ◌++◌, ℕ, zero, suc, ◌+◌, ◌-◌, ◌/◌, ◌%◌, leb, ltb, length, take, drop, replicate}
+use Rattle.std.specs.Prelude.{◌≡◌, Bool, true, false, Result, Ok, Err, List, [], ◌∷◌, ◌++◌, ℕ, zero, suc, ◌+◌, ◌-◌, ◌/◌, ◌%◌, leb, ltb, length, take, drop, replicate}
 use Rattle.numbers.specs.Refusal.{number_of}
-use Rattle.frame_lines.specs.declared.answer.Reply.{Reply}
-use Rattle.frame_lines.specs.declared.answer.Reply.TheVariants.{Volume, Refused}
+use Rattle.numbers.specs.declared.refusal.Refusal.{Refusal}
+use Rattle.frame_lines.specs.declared.answer.Recommended.{Recommended}
 use Rattle.frame_lines.specs.declared.answer.Text.{Text}
 
 -- '0' to '9', 'a' to 'f'
@@ -47,9 +47,13 @@ volume_text volume near = two_digits volume ++ 32 ∷ mark near ∷ 10 ∷ []
 unfoldable pub number_text : ℕ → List ℕ
 number_text n = (33 ∷ 32 ∷ []) ++ decimal n ++ 10 ∷ []
 
+-- what there is to say: a recommendation, or why the line is refused
+abbrev pub Reply : Type 0
+Reply = Result Recommended Refusal
+
 unfoldable pub answer_of : Reply → List ℕ
-answer_of (Volume volume near) = volume_text volume near
-answer_of (Refused cause) = number_text (number_of cause)
+answer_of (Ok r) = volume_text r.volume r.near
+answer_of (Err cause) = number_text (number_of cause)
 
 -- the text of an answer as a value: its bytes, and zeros behind them
 abbrev pub held : List ℕ → Text

@@ -1,6 +1,5 @@
 -- Document 02, (vii): "Lines typed by hand arrive with capitals, several blanks, or blanks at the ends. A lenient reader takes these". A blank is the space alone. Definitions only.
-use Rattle.std.specs.Prelude.{Bool, true, false, ◌&&◌, not, List, [], ◌∷◌, ◌++◌, map, ℕ, ◌+◌, leb, eqb, length}
-use Rattle.std.proofs.Math.Option.{Option, none}
+use Rattle.std.specs.Prelude.{Bool, true, false, ◌&&◌, not, List, [], ◌∷◌, ◌++◌, map, ℕ, ◌+◌, leb, eqb, length, Option, None}
 use Rattle.frame_lines.specs.Line.{most_characters, Fields, meaning}
 
 -- ---- capitals
@@ -26,7 +25,7 @@ abbrev pub begins_field : List ℕ → Bool
 begins_field [] = false
 begins_field (c ∷ text) = not (is_space c)
 
--- a character before a text, of which the fields are given: a blank is in none, and any other goes on with a field that the text begins with, or is one
+-- a character before a text, of which the fields are given: a blank is in None, and any other goes on with a field that the text begins with, or is one
 abbrev pub field_if : Bool → Bool → ℕ → List (List ℕ) → List (List ℕ)
 field_if true begins c fields = fields
 field_if false false c fields = (c ∷ []) ∷ fields
@@ -60,7 +59,7 @@ forgiven line = map lowered (spaced (with_samples (fields_in line)))
 
 abbrev pub lenient_if : Bool → List ℕ → Option Fields
 lenient_if true line = meaning (forgiven line)
-lenient_if false line = none
+lenient_if false line = None
 
 -- "It refuses with 12 what is malformed after such blanks and capitals are forgiven, the length of 2,000 counted before."
 unfoldable pub lenient_meaning : List ℕ → Option Fields

@@ -2,8 +2,7 @@
 --     c8 00000000 - 0000..            c8 00000000 3f800000 0000..
 --     0  3        12 14               0  3        12       21
 -- Definitions only.
-use Rattle.std.specs.Prelude.{Bool, true, false, ◌&&◌, List, ℕ, leb, eqb, ℤ, length, get_or, take, drop}
-use Rattle.std.proofs.Math.Option.{Option, none, some}
+use Rattle.std.specs.Prelude.{Bool, true, false, ◌&&◌, List, ℕ, leb, eqb, ℤ, length, get_or, take, drop, Option, None, Some}
 use Rattle.frame_lines.specs.Digits.{are_digits, number}
 use Rattle.frame_lines.specs.Samples.{are_samples, samples_in}
 
@@ -66,8 +65,8 @@ pub record Fields : Type 0 where
   pub samples : List ℤ
 
 abbrev pub level_if : Bool → List ℕ → Option ℕ
-level_if true line = none
-level_if false line = some (number (part line 12 8))
+level_if true line = None
+level_if false line = Some (number (part line 12 8))
 
 unfoldable pub fields_of : List ℕ → Fields
 fields_of line = record {
@@ -78,8 +77,8 @@ fields_of line = record {
 }
 
 abbrev pub meaning_if : Bool → List ℕ → Option Fields
-meaning_if true line = some (fields_of line)
-meaning_if false line = none
+meaning_if true line = Some (fields_of line)
+meaning_if false line = None
 
 -- what a line means, or nothing, which is cause 12: "malformed frame line"
 unfoldable pub meaning : List ℕ → Option Fields

@@ -1,12 +1,8 @@
 -- What `parse` hands out of a line's meaning: floats in place of their bits, samples as floats "on the 16-bit scale" (document 01, "Levels"). Definitions only.
-use Rattle.std.specs.Prelude.{◌≡◌, Bool, true, false, List, [], ◌∷◌, map, ℕ, Float, ℤ, length}
-use Rattle.std.proofs.Math.Option.{Option, none, some}
+use Rattle.std.specs.Prelude.{◌≡◌, Bool, true, false, Option, Some, None, List, [], ◌∷◌, map, ℕ, Float, ℤ, length}
 use Rattle.std.specs.Float.{binary32}
 use Rattle.std.specs.Float.Ieee.{of_bits, of_int}
-use Rattle.mono_input_volume_controller.specs.declared.speech_level.SpeechLevel.{SpeechLevel}
-use Rattle.mono_input_volume_controller.specs.declared.speech_level.SpeechLevel.TheVariants.{Absent, Dbfs}
-use Rattle.frame_lines.specs.declared.line.Parsed.{Parsed}
-use Rattle.frame_lines.specs.declared.line.Parsed.TheVariants.{Malformed, Frame}
+use Rattle.frame_lines.specs.declared.line.Frame.{Frame}
 use Rattle.frame_lines.specs.Samples.{samples_in}
 use Rattle.frame_lines.specs.Line.{Fields, is_framed, sample_text, meaning}
 
@@ -14,14 +10,17 @@ use Rattle.frame_lines.specs.Line.{Fields, is_framed, sample_text, meaning}
 abbrev pub float_of : ℕ → Float
 float_of bits = of_bits binary32 bits
 
-abbrev pub speech_level_of : Option ℕ → SpeechLevel
-speech_level_of none = Absent
-speech_level_of (some bits) = Dbfs (float_of bits)
+abbrev pub speech_level_of : Option ℕ → Option Float
+speech_level_of None = None
+speech_level_of (Some bits) = Some (float_of bits)
 
 -- a meaning, with the number of its samples in their place: they are lent
-abbrev pub parsed_of : Option Fields → Parsed
-parsed_of none = Malformed
-parsed_of (some f) = Frame f.volume (float_of f.probability) (speech_level_of f.level) (length f.samples)
+abbrev pub frame_of : Fields → Frame
+frame_of f = record { volume = f.volume; probability = float_of f.probability; level = speech_level_of f.level; count = length f.samples }
+
+abbrev pub parsed_of : Option Fields → Option Frame
+parsed_of None = None
+parsed_of (Some f) = Some (frame_of f)
 
 abbrev pub sample_of : ℤ → Float
 sample_of x = of_int binary32 x
@@ -30,7 +29,7 @@ abbrev pub read_if : Bool → List ℕ → List ℤ
 read_if true line = samples_in (sample_text line)
 read_if false line = []
 
--- the samples that are read of a line: those of a malformed one as far as they go, and none where its other fields are malformed
+-- the samples that are read of a line: those of a malformed one as far as they go, and None where its other fields are malformed
 unfoldable pub samples_read : List ℕ → List Float
 samples_read line = map sample_of (read_if (is_framed line) line)
 
@@ -41,6 +40,6 @@ over (x ∷ xs) [] = []
 over (x ∷ xs) (y ∷ ys) = x ∷ over xs ys
 
 -- the answer to a line, and what a lent slice holds afterwards that held `before`
-pub record ParsedAs (line : List ℕ) (before after : List Float) (r : Parsed) : Type 0 where
+pub record ParsedAs (line : List ℕ) (before after : List Float) (r : Option Frame) : Type 0 where
   pub answer_is : r ≡ parsed_of (meaning line)
   pub lent_is : after ≡ over (samples_read line) before

@@ -1,7 +1,6 @@
 -- Document 02, (vii), as a program: each line is answered with its base spelling, or with `! 12`; a line feed ends the answer. Definitions only.
-use Rattle.std.specs.Prelude.{◌≡◌, Bool, true, false, ℕ, suc, ◌+◌, ◌-◌, ◌≤◌, leb, length, take, drop}
+use Rattle.std.specs.Prelude.{◌≡◌, Bool, true, false, ℕ, suc, ◌+◌, ◌-◌, ◌≤◌, leb, length, take, drop, Option, None, Some}
 use mathlib.Core.List.{List, [], ◌∷◌, ◌++◌, map, flatten}
-use Rattle.std.proofs.Math.Option.{Option, none, some}
 use Rattle.numbers.specs.declared.refusal.Refusal.TheVariants.{FrameLine}
 use Rattle.numbers.specs.Refusal.{number_of}
 use Rattle.frame_lines.specs.declared.lines.Begun.{Begun}
@@ -18,8 +17,8 @@ use Rattle.frame_lines.specs.Spelling.{spelling}
 
 -- "It refuses with 12", and "a writer gives the base spelling"
 unfoldable pub respelled_text : Option Fields → List ℕ
-respelled_text none = number_text (number_of FrameLine)
-respelled_text (some f) = spelling f ++ 10 ∷ []
+respelled_text None = number_text (number_of FrameLine)
+respelled_text (Some f) = spelling f ++ 10 ∷ []
 
 abbrev pub text_of_line : List ℕ → List ℕ
 text_of_line line = respelled_text (lenient_meaning line)
@@ -51,15 +50,15 @@ abbrev pub used_if : Bool → ℕ → ℕ
 used_if true n = n
 used_if false n = 0
 
--- how much is used of a piece that ends some lines and then begins another: one line after the other, as long as there is room for the longest answer
+-- how much is used of a piece that ends Some lines and then begins another: one line after the other, as long as there is room for the longest answer
 unfoldable pub used_from : ℕ → List (List ℕ) → List ℕ → ℕ
 used_from room [] rest = used_if (has_room room) (length rest)
 used_from room (line ∷ lines) rest = used_if (has_room room) (suc (length line) + used_from (room - length (text_of_line line)) lines rest)
 
 -- a piece up to its first line feed, or all of it
 abbrev pub up_to_feed : Option ℕ → List ℕ → ℕ
-up_to_feed none piece = length piece
-up_to_feed (some n) piece = suc n
+up_to_feed None piece = length piece
+up_to_feed (Some n) piece = suc n
 
 -- of a line that began before, its end alone
 abbrev pub used_of : List ℕ → List ℕ → List ℕ → ℕ
@@ -82,7 +81,7 @@ finished_if false k = []
 abbrev pub finished_text : List ℕ → List ℕ → List ℕ
 finished_text k out = text_of_lines (finished_if (has_room (length out)) k)
 
--- what the private function says of lines that lie within a piece: no more is used than ends some, and behind that there is no room for another, or no other line ends
+-- what the private function says of lines that lie within a piece: no more is used than ends Some, and behind that there is no room for another, or no other line ends
 pub record WholeAs (piece before after : List ℕ) (r : Whole) : Type 0 where
   pub within : r.used ≤ length piece
   pub begins : begun (take r.used piece) ≡ []

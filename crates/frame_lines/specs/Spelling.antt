@@ -1,6 +1,5 @@
 -- Document 02, (vii): "a writer gives the base spelling": the line of document 01's grammar that has a meaning. Definitions only.
-use Rattle.std.specs.Prelude.{List, [], ◌∷◌, ◌++◌, ℕ, suc, ◌-◌, ◌^◌, ℤ, pos, negsuc}
-use Rattle.std.proofs.Math.Option.{Option, none, some}
+use Rattle.std.specs.Prelude.{List, [], ◌∷◌, ◌++◌, ℕ, suc, ◌-◌, ◌^◌, ℤ, pos, negsuc, Option, None, Some}
 use Rattle.frame_lines.specs.Line.{Fields}
 use Rattle.frame_lines.specs.Answer.{digits_of}
 use Rattle.frame_lines.specs.Forgiven.{spaced}
@@ -17,8 +16,8 @@ samples_text (x ∷ samples) = digits_of 4 (unsigned16 x) ++ samples_text sample
 
 -- "speech level (8, float bits, or `-`)"; a dash is 45
 unfoldable pub level_text : Option ℕ → List ℕ
-level_text none = 45 ∷ []
-level_text (some bits) = digits_of 8 bits
+level_text None = 45 ∷ []
+level_text (Some bits) = digits_of 8 bits
 
 -- "volume (2 hexadecimal digits ..), speech probability (8, float bits), speech level .., samples .."
 unfoldable pub spelling : Fields → List ℕ

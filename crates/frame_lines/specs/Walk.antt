@@ -1,8 +1,7 @@
 -- How a line is walked from field to field: what the functions of `spelling` say. Definitions only.
-use Rattle.std.specs.Prelude.{◌≡◌, Bool, true, false, List, [], ◌∷◌, ◌++◌, map, ℕ, ◌-◌, ◌≤◌, ◌<◌, leb, ltb, eqb, length, take, drop}
-use Rattle.std.proofs.Math.Option.{Option, none, some}
-use Rattle.frame_lines.specs.declared.spelling.Respelled.{Respelled}
-use Rattle.frame_lines.specs.declared.spelling.Respelled.TheVariants.{Malformed, NoRoom, Spelled}
+use Rattle.std.specs.Prelude.{◌≡◌, Bool, true, false, Result, Ok, Err, List, [], ◌∷◌, ◌++◌, map, ℕ, ◌-◌, ◌≤◌, ◌<◌, leb, ltb, eqb, length, take, drop, Option, None, Some}
+use Rattle.frame_lines.specs.declared.spelling.Unspelled.{Unspelled}
+use Rattle.frame_lines.specs.declared.spelling.Unspelled.TheVariants.{Malformed, NoRoom}
 use Rattle.frame_lines.specs.declared.spelling.Walked.{Walked}
 use Rattle.frame_lines.specs.Line.{most_characters, part, Fields}
 use Rattle.frame_lines.specs.Answer.{laid}
@@ -45,14 +44,14 @@ forgiven_length count n = length_if (eqb count 3) n
 
 -- ---- a line
 
-abbrev pub taken_if : Option Fields → Respelled
-taken_if none = Malformed
-taken_if (some f) = Spelled (length (spelling f))
+abbrev pub taken_if : Option Fields → Result ℕ Unspelled
+taken_if None = Err Malformed
+taken_if (Some f) = Ok (length (spelling f))
 
 -- whether the line is short enough, and whether the slice is longer than it
-abbrev pub respelled_if : Bool → Bool → List ℕ → Respelled
-respelled_if false room line = Malformed
-respelled_if true false line = NoRoom
+abbrev pub respelled_if : Bool → Bool → List ℕ → Result ℕ Unspelled
+respelled_if false room line = Err Malformed
+respelled_if true false line = Err NoRoom
 respelled_if true true line = taken_if (lenient_meaning line)
 
 abbrev pub tried_if : Bool → Bool → List ℕ → List ℕ
@@ -61,7 +60,7 @@ tried_if true false line = []
 tried_if true true line = walked_text line
 
 -- the answer to a line, and what a lent slice holds afterwards that held `before`: the fields of a line that is tried, and of one that is taken first of all the spelling
-pub record RespelledAs (line before after : List ℕ) (r : Respelled) : Type 0 where
+pub record RespelledAs (line before after : List ℕ) (r : Result ℕ Unspelled) : Type 0 where
   pub answer_is : r ≡ respelled_if (leb (length line) most_characters) (ltb (length line) (length before)) line
   pub lent_is : after ≡ laid (tried_if (leb (length line) most_characters) (ltb (length line) (length before)) line) before
-  pub spelled : (f : Fields) (n : ℕ) → lenient_meaning line ≡ some f → r ≡ Spelled n → take n after ≡ spelling f
+  pub spelled : (f : Fields) (n : ℕ) → lenient_meaning line ≡ Some f → r ≡ Ok n → take n after ≡ spelling f

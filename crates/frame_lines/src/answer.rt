@@ -5,17 +5,20 @@ ghost use Rattle.frame_lines.specs.Answer.{digit_character, mark, longest, volum
 
 use numbers::refusal::Refusal;
 
-// What there is to say: a recommended volume and whether its frame is near, or why the line is refused.
+// A recommended volume, and whether its frame is near.
 #[derive(Clone, Copy)]
-pub enum Reply {
-    Volume(u8, bool),
-    Refused(Refusal),
+pub struct Recommended {
+    pub volume: u8,
+    pub near: bool,
 }
+
+// What there is to say: a recommendation, or why the line is refused.
+pub type Reply = Result<Recommended, Refusal>;
 
 // The most bytes that an answer has.
 pub const LONGEST: usize = 5;
 
-// The bytes of an answer, its line feed among them: the first `length` of these.
+// The bytes of an answer, its line feed among them: the first `length` of these. An array, and no `ArrayVec`: that is not `Copy`.
 #[derive(Clone, Copy)]
 pub struct Text {
     pub bytes: [u8; LONGEST],
@@ -71,8 +74,8 @@ pub fn answer(reply: Reply) -> Text
     ensures { result ≡ held (answer_of reply) }
 {
     match reply {
-        Reply::Volume(volume, near) => volume_text(volume, near),
-        Reply::Refused(cause) => number_text(numbers::refusal::number(cause)),
+        Ok(recommended) => volume_text(recommended.volume, recommended.near),
+        Err(cause) => number_text(cause.number()),
     }
 }
 
@@ -81,10 +84,8 @@ fn put(out: &mut [u8], at: usize, text: Text)
     requires { (length text.bytes ≡ longest) × (text.length ≤ longest) × (at + text.length ≤ length out.old) }
     ensures { out.new ≡ paste out.old at text.bytes text.length }
 {
-    let count = text.length;
-    for i in 0..count {
-        out[at + i] = text.bytes[i];
-    }
+    let end = at + text.length;
+    out[at..end].copy_from_slice(&text.bytes[..text.length]);
 }
 
 // An answer from a place on, and the place behind it. Where there is no room for the longest, nothing is put.

@@ -3,10 +3,9 @@ ghost use Rattle.std.specs.Prelude.{◌≡◌, ◌≤◌, length};
 ghost use Rattle.frame_lines.specs.Feeds.{kept, GoodBeginning};
 ghost use Rattle.frame_lines.specs.Respelled.{longest_respelling, text_of_line, AnswersIn, WholeAs, FedAs, finished_text};
 
-use crate::answer::{Reply, put_reply};
-use crate::lines::Begun;
-use crate::search::{Place, next_of};
-use crate::spelling::{Respelled, respell};
+use crate::answer::put_reply;
+use crate::lines::{Begun, next_feed};
+use crate::spelling::{Unspelled, respell};
 use numbers::refusal::Refusal;
 
 // The most bytes that an answer has, its line feed among them.
@@ -32,15 +31,14 @@ fn answer_line(line: &[u8], out: &mut [u8]) -> usize
     requires { longest_respelling ≤ length out.old }
     ensures { AnswersIn (text_of_line line.now) out.old out.new result }
 {
-    let respelled = respell(line, out);
-    match respelled {
-        Respelled::Spelled(n) => {
+    match respell(line, out) {
+        Ok(n) => {
             out[n] = b'\n';
             n + 1
         }
-        Respelled::Malformed => put_reply(out, 0, Reply::Refused(Refusal::FrameLine)),
+        Err(Unspelled::Malformed) => put_reply(out, 0, Err(Refusal::FrameLine)),
         // never: there is room for every line that is not too long
-        Respelled::NoRoom => 0,
+        Err(Unspelled::NoRoom) => 0,
     }
 }
 
@@ -51,8 +49,7 @@ fn whole_lines(piece: &[u8], out: &mut [u8]) -> Whole
     let mut used = 0;
     let mut written = 0;
     while LONGEST_RESPELLING <= out.len() - written {
-        let next = next_of(piece, used, b'\n');
-        let Place::At(end) = next else {
+        let Some(end) = next_feed(piece, used) else {
             return Whole { used, written };
         };
         written += answer_line(&piece[used..end], &mut out[written..]);
@@ -75,9 +72,7 @@ pub fn feed(begun: Begun, piece: &[u8], out: &mut [u8]) -> Fed
         };
     }
     if begun.length == 0 {
-        let whole = whole_lines(piece, out);
-        let used = whole.used;
-        let written = whole.written;
+        let Whole { used, written } = whole_lines(piece, out);
         if room - written < LONGEST_RESPELLING {
             return Fed {
                 begun,
@@ -91,8 +86,7 @@ pub fn feed(begun: Begun, piece: &[u8], out: &mut [u8]) -> Fed
             written,
         };
     }
-    let next = next_of(piece, 0, b'\n');
-    let Place::At(end) = next else {
+    let Some(end) = next_feed(piece, 0) else {
         return Fed {
             begun: begun.append(piece),
             used: piece.len(),
@@ -100,9 +94,7 @@ pub fn feed(begun: Begun, piece: &[u8], out: &mut [u8]) -> Fed
         };
     };
     let line = begun.append(&piece[..end]);
-    let n = line.length;
-    let bytes = line.bytes;
-    let written = answer_line(&bytes[..n], out);
+    let written = answer_line(line.text(), out);
     Fed {
         begun: line.cleared(),
         used: end + 1,
@@ -121,7 +113,5 @@ pub fn finish(begun: Begun, out: &mut [u8]) -> usize
     if out.len() < LONGEST_RESPELLING {
         return 0;
     }
-    let n = begun.length;
-    let bytes = begun.bytes;
-    answer_line(&bytes[..n], out)
+    answer_line(begun.text(), out)
 }

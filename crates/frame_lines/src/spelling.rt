@@ -5,14 +5,13 @@ ghost use Rattle.frame_lines.specs.Forgiven.{lowered};
 ghost use Rattle.frame_lines.specs.Walk.{FieldBehind, FieldTo, WalkedAs, forgiven_length, RespelledAs};
 
 use crate::line::{MOST_CHARACTERS, is_well_formed};
-use crate::search::{Place, next_of};
+use crate::search::next_of;
 
-// What becomes of a line: it is malformed, or the slice is no longer than the line, or it holds the spelling, of this length.
+// Why a line is not spelled: it is malformed, or the slice is no longer than the line.
 #[derive(Clone, Copy)]
-pub enum Respelled {
+pub enum Unspelled {
     Malformed,
     NoRoom,
-    Spelled(usize),
 }
 
 // What was put of a line: how many fields, and how many bytes.
@@ -22,22 +21,13 @@ struct Walked {
     length: usize,
 }
 
-// The small letter of a capital.
-fn small(c: u8) -> u8
-    ensures { result ≡ lowered c }
-{
-    if (b'A' <= c) & (c <= b'Z') { c + 32 } else { c }
-}
-
-// A text from a place on, in small letters: no branch is left between them.
+// A text from a place on, in small letters.
 fn put_small(out: &mut [u8], at: usize, text: &[u8])
     requires { at + length text.now ≤ length out.old }
     ensures { out.new ≡ paste out.old at (map lowered text.now) (length text.now) }
 {
-    let mut i = 0;
-    while i < text.len() {
-        out[at + i] = small(text[i]);
-        i += 1;
+    for (i, c) in text.iter().enumerate() {
+        out[at + i] = c.to_ascii_lowercase();
     }
 }
 
@@ -46,14 +36,12 @@ fn behind_blanks(line: &[u8], at: usize) -> usize
     requires { at ≤ length line.now }
     ensures { FieldBehind line.now at result }
 {
-    let mut i = at;
-    while i < line.len() {
+    for i in at..line.len() {
         if line[i] != b' ' {
             return i;
         }
-        i += 1;
     }
-    i
+    line.len()
 }
 
 // The place behind the field that `at` is in.
@@ -61,10 +49,9 @@ fn field_end(line: &[u8], at: usize) -> usize
     requires { at ≤ length line.now }
     ensures { FieldTo line.now at result }
 {
-    let next = next_of(line, at, b' ');
-    match next {
-        Place::At(end) => end,
-        Place::Nowhere => line.len(),
+    match next_of(line, at, b' ') {
+        Some(end) => end,
+        None => line.len(),
     }
 }
 
@@ -101,20 +88,20 @@ fn forgiven_length(count: usize, length: usize) -> usize
     length - 1
 }
 
-// The base spelling of a line, without its line feed, at the beginning of a slice that is longer than the line.
-pub fn respell(line: &[u8], out: &mut [u8]) -> Respelled
+// The base spelling of a line, without its line feed, at the beginning of a slice that is longer than the line, and its length.
+pub fn respell(line: &[u8], out: &mut [u8]) -> Result<usize, Unspelled>
     ensures { RespelledAs line.now out.old out.new result }
 {
     if line.len() > MOST_CHARACTERS {
-        return Respelled::Malformed;
+        return Err(Unspelled::Malformed);
     }
     if out.len() <= line.len() {
-        return Respelled::NoRoom;
+        return Err(Unspelled::NoRoom);
     }
     let walked = put_fields(line, out);
     let n = forgiven_length(walked.count, walked.length);
     if is_well_formed(&out[..n]) {
-        return Respelled::Spelled(n);
+        return Ok(n);
     }
-    Respelled::Malformed
+    Err(Unspelled::Malformed)
 }

@@ -11,31 +11,15 @@ use frame_answers::stream::Stream;
 // ASCII's separator of files.
 const SEPARATOR: u8 = 28;
 
-// Where the file that starts or goes on at `at` ends.
-fn file_end(s: &[u8], at: usize) -> usize
-    requires { at ≤ length s.now }
-    ensures { (at ≤ result) × (result ≤ length s.now) }
-{
-    let mut i = at;
-    while i < s.len() {
-        if s[i] == SEPARATOR {
-            return i;
-        }
-        i += 1;
-    }
-    i
-}
-
 // Where the piece that starts at `at` ends: 1 to 611 bytes on.
 fn piece_end(at: usize, end: usize) -> usize
     requires { at < end }
     ensures { (at < result) × (result ≤ end) }
 {
-    let size = at % 611 + 1;
-    if end - at < size { end } else { at + size }
+    at + (end - at).min(at % 611 + 1)
 }
 
-// Answers a part of a file. Where a write fails there is nobody to tell.
+// Answers a part of a file, by its places, since a place decides how long the piece there is. Where a write fails there is nobody to tell.
 fn answer_part<R: Print>(rt: &R, begun: Stream, text: &[u8]) -> Stream
     requires { Good begun }
     ensures { Good result }
@@ -47,8 +31,7 @@ fn answer_part<R: Print>(rt: &R, begun: Stream, text: &[u8]) -> Stream
         let end = piece_end(at, text.len());
         let fed = stream.feed(&text[at..end], &mut out);
         stream = fed.stream;
-        let written = fed.written;
-        let _ = rt.write_all(&out[..written]);
+        let _ = rt.write_all(&out[..fed.written]);
         at += fed.used;
     }
     stream
@@ -59,9 +42,7 @@ fn finished<R: Print>(rt: &R, stream: Stream)
     requires { Good stream }
 {
     let last = stream.finish();
-    let length = last.length;
-    let bytes = last.bytes;
-    let _ = rt.write_all(&bytes[..length]);
+    let _ = rt.write_all(&last.bytes[..last.length]);
 }
 
 // Answers what was read, and hands on the stream of the file that has not ended.
@@ -70,18 +51,14 @@ fn answer_files<R: Print>(rt: &R, begun: Stream, s: &[u8]) -> Stream
     ensures { Good result }
 {
     let mut stream = begun;
-    let mut at = 0;
-    while at < s.len() {
-        let end = file_end(s, at);
-        stream = answer_part(rt, stream, &s[at..end]);
-        if s.len() <= end {
-            return stream;
-        }
+    let mut rest = s;
+    while let Some(end) = rest.iter().position(|c| *c == SEPARATOR) {
+        stream = answer_part(rt, stream, &rest[..end]);
         finished(rt, stream);
         stream = Stream::new();
-        at = end + 1;
+        rest = &rest[end + 1..];
     }
-    stream
+    answer_part(rt, stream, rest)
 }
 
 // A loop must be shown to end: no input has so many pieces.

@@ -2,4 +2,3 @@ pub mod GainTable
 pub mod Differences
 pub mod Paths
 pub mod Walks
-pub mod Says

@@ -6,11 +6,10 @@ use native.Mathlib.Omega.{arith}
 use lib.IntN.{ℤ, pos, negsuc, neg_ℤ, nat_abs}
 use lib.Signed.{lt_z}
 use borrow.Author.Tests.{le-leb, lt-leb, ltb-true, ltb-false}
-use Rattle.numbers.specs.declared.natural.Natural.TheVariants.{Number, Outside}
+use Rattle.std.specs.Prelude.{Err, None, Ok, Some}
 use Rattle.numbers.specs.declared.refusal.Refusal.TheVariants.{MinimumVolume, InputVolume, EstimateRange}
 use Rattle.numbers.specs.Natural.{within_of}
 use Rattle.numbers.proofs.Signs.{clash}
-use Rattle.gain_map.specs.declared.VolumeUpdate.TheVariants.{Volume, Refused}
 use Rattle.gain_map.specs.VolumeUpdate.{rise, fall, walk, stepped, volume_update_of}
 
 -- ---- the walk, by the sign of the wanted change, which the two walks take without its sign
@@ -34,25 +33,25 @@ module _ (volume min max : ℕ) where
 
 -- ---- the volume step, by what its three volumes are
 module _ (wanted volume min max : ℤ) where
-  pub no_minimum : within_of 0 255 min ≡ Outside → Refused MinimumVolume ≡ volume_update_of wanted volume min max
+  pub no_minimum : within_of 0 255 min ≡ None → Err MinimumVolume ≡ volume_update_of wanted volume min max
   unfolding volume_update_of stepped
   no_minimum a = rw a
 
-  module _ (low : ℕ) (a : within_of 0 255 min ≡ Number low) where
-    pub no_volume : within_of 0 255 volume ≡ Outside → Refused InputVolume ≡ volume_update_of wanted volume min max
+  module _ (low : ℕ) (a : within_of 0 255 min ≡ Some low) where
+    pub no_volume : within_of 0 255 volume ≡ None → Err InputVolume ≡ volume_update_of wanted volume min max
     unfolding volume_update_of stepped
     no_volume b = rw (a, b)
 
-    module _ (here : ℕ) (b : within_of 0 255 volume ≡ Number here) where
-      pub no_maximum : within_of 0 255 max ≡ Outside → Refused EstimateRange ≡ volume_update_of wanted volume min max
+    module _ (here : ℕ) (b : within_of 0 255 volume ≡ Some here) where
+      pub no_maximum : within_of 0 255 max ≡ None → Err EstimateRange ≡ volume_update_of wanted volume min max
       unfolding volume_update_of stepped
       no_maximum d = rw (a, b, d)
 
-      module _ (high : ℕ) (d : within_of 0 255 max ≡ Number high) where
-        pub above_maximum : high < here → Refused EstimateRange ≡ volume_update_of wanted volume min max
+      module _ (high : ℕ) (d : within_of 0 255 max ≡ Some high) where
+        pub above_maximum : high < here → Err EstimateRange ≡ volume_update_of wanted volume min max
         unfolding volume_update_of stepped
         above_maximum h = rw (a, b, d, lt-leb here high h)
 
-        pub steps_to : here ≤ high → Volume (pos (walk wanted here low high)) ≡ volume_update_of wanted volume min max
+        pub steps_to : here ≤ high → Ok (pos (walk wanted here low high)) ≡ volume_update_of wanted volume min max
         unfolding volume_update_of stepped
         steps_to h = rw (a, b, d, le-leb here high h)

@@ -1,17 +1,12 @@
 -- Document 01, "Volume steps": "For a wanted change, walk volume by volume until the table difference reaches it or the end (minimum, or maximum) is met;
 -- the walk yields the volume where it stopped." WebRTC's `ComputeVolumeUpdate`. Definitions only.
-use Rattle.std.specs.Prelude.{ℕ, zero, suc, ◌+◌, ◌-◌, Bool, true, false, leb, ℤ, pos, negsuc, ◌-ℤ◌}
+use Rattle.std.specs.Prelude.{ℕ, zero, suc, ◌+◌, ◌-◌, Bool, true, false, leb, ℤ, pos, negsuc, ◌-ℤ◌, Err, None, Ok, Option, Result, Some}
 use Rattle.std.specs.Int.Signed.{le_z}
-use Rattle.numbers.specs.declared.natural.Natural.{Natural}
-use Rattle.numbers.specs.declared.natural.Natural.TheVariants.{Number, Outside}
+use Rattle.numbers.specs.declared.refusal.Refusal.{Refusal}
 use Rattle.numbers.specs.declared.refusal.Refusal.TheVariants.{MinimumVolume, InputVolume, EstimateRange}
 use Rattle.numbers.specs.Natural.{within_of}
-use Rattle.numbers.specs.Refusal.{number_of}
-use Rattle.numbers.specs.Said.{Said, accepted, refused}
 use Rattle.numbers.specs.First.{first}
 use Rattle.gain_map.specs.GainMap.{gain}
-use Rattle.gain_map.specs.declared.VolumeUpdate.{VolumeUpdate}
-use Rattle.gain_map.specs.declared.VolumeUpdate.TheVariants.{Volume, Refused}
 
 -- k volumes above the base, the table has risen by what is wanted
 abbrev pub risen : ℤ → ℕ → ℕ → Bool
@@ -36,23 +31,18 @@ walk (pos zero) volume min max = volume
 walk (pos (suc n)) volume min max = rise (pos (suc n)) volume max
 walk (negsuc n) volume min max = fall (negsuc n) volume min
 
--- document 01's number and value for each case of the answer
-abbrev pub update_says : VolumeUpdate → Said ℤ
-update_says (Volume v) = accepted v
-update_says (Refused cause) = refused (number_of cause)
-
 -- "The bare volume step tests 2 (its minimum), 8, 10 (its maximum not 0 to 255, or the volume above it; a minimum above the maximum is let through)."
-abbrev pub reached : Bool → ℕ → VolumeUpdate
-reached true volume = Volume (pos volume)
-reached false volume = Refused EstimateRange
+abbrev pub reached : Bool → ℕ → Result ℤ Refusal
+reached true volume = Ok (pos volume)
+reached false volume = Err EstimateRange
 
-unfoldable pub stepped : ℤ → Natural → Natural → Natural → VolumeUpdate
+unfoldable pub stepped : ℤ → Option ℕ → Option ℕ → Option ℕ → Result ℤ Refusal
 unfolding walk
-stepped wanted Outside volume max = Refused MinimumVolume
-stepped wanted (Number min) Outside max = Refused InputVolume
-stepped wanted (Number min) (Number volume) Outside = Refused EstimateRange
-stepped wanted (Number min) (Number volume) (Number max) = reached (leb volume max) (walk wanted volume min max)
+stepped wanted None volume max = Err MinimumVolume
+stepped wanted (Some min) None max = Err InputVolume
+stepped wanted (Some min) (Some volume) None = Err EstimateRange
+stepped wanted (Some min) (Some volume) (Some max) = reached (leb volume max) (walk wanted volume min max)
 
-unfoldable pub volume_update_of : ℤ → ℤ → ℤ → ℤ → VolumeUpdate
+unfoldable pub volume_update_of : ℤ → ℤ → ℤ → ℤ → Result ℤ Refusal
 unfolding stepped
 volume_update_of wanted volume min max = stepped wanted (within_of 0 255 min) (within_of 0 255 volume) (within_of 0 255 max)

@@ -2,10 +2,11 @@
 #![tactic(auto)]
 
 ghost use Rattle.std.specs.Prelude.{◌≡◌, pos, neg_ℤ};
+ghost use Rattle.numbers.specs.Said.{said};
 ghost use Rattle.gain_map.specs.Differences.{word_of, difference};
-ghost use Rattle.gain_map.specs.VolumeUpdate.{rise, fall, walk, update_says, volume_update_of};
+ghost use Rattle.gain_map.specs.VolumeUpdate.{rise, fall, walk, volume_update_of};
 
-use numbers::natural::Natural;
+use numbers::natural::within;
 use numbers::refusal::Refusal;
 
 // The gains of neighbouring input volumes differ by 0, 1 or 2 dB, so the table is kept as these differences (WebRTC's gain_map_internal.h has the gains): 32 volumes a word,
@@ -74,7 +75,7 @@ fn fall_from(wanted: u32, base: u8, min: u8) -> u8
 pub fn walk_from(wanted: i32, volume: u8, min: u8, max: u8) -> u8
     ensures { result ≡ walk wanted volume min max }
 {
-    let size = numbers::sign::size(wanted);
+    let size = wanted.unsigned_abs();
     if wanted > 0 {
         return rise_from(size, volume, max);
     }
@@ -84,35 +85,19 @@ pub fn walk_from(wanted: i32, volume: u8, min: u8, max: u8) -> u8
     volume
 }
 
-// A volume, or why there is none.
-#[derive(Clone, Copy)]
-pub enum VolumeUpdate {
-    Volume(i32),
-    Refused(Refusal),
-}
-
 pub fn compute_volume_update(
     gain_error_db: i32,
     input_volume: i32,
     min_input_volume: i32,
     max_input_volume: i32,
-) -> VolumeUpdate
-    ensures { update_says result ≡ update_says (volume_update_of gain_error_db input_volume min_input_volume max_input_volume) }
+) -> Result<i32, Refusal>
+    ensures { said result ≡ said (volume_update_of gain_error_db input_volume min_input_volume max_input_volume) }
 {
-    let low = numbers::natural::within(0, 255, min_input_volume);
-    let Natural::Number(min) = low else {
-        return VolumeUpdate::Refused(Refusal::MinimumVolume);
-    };
-    let here = numbers::natural::within(0, 255, input_volume);
-    let Natural::Number(volume) = here else {
-        return VolumeUpdate::Refused(Refusal::InputVolume);
-    };
-    let high = numbers::natural::within(0, 255, max_input_volume);
-    let Natural::Number(max) = high else {
-        return VolumeUpdate::Refused(Refusal::EstimateRange);
-    };
+    let min = within(0, 255, min_input_volume).ok_or(Refusal::MinimumVolume)?;
+    let volume = within(0, 255, input_volume).ok_or(Refusal::InputVolume)?;
+    let max = within(0, 255, max_input_volume).ok_or(Refusal::EstimateRange)?;
     if max < volume {
-        return VolumeUpdate::Refused(Refusal::EstimateRange);
+        return Err(Refusal::EstimateRange);
     }
-    VolumeUpdate::Volume(walk_from(gain_error_db, volume as u8, min as u8, max as u8) as i32)
+    Ok(walk_from(gain_error_db, volume as u8, min as u8, max as u8) as i32)
 }

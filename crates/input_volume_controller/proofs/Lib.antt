@@ -1,3 +1,4 @@
+pub mod Flags
 pub mod ChannelLists
 pub mod SetNumbers
 pub mod Sets

@@ -22,8 +22,7 @@ use Rattle.mono_input_volume_controller.specs.declared.mono.MonoInputVolumeContr
 use Rattle.mono_input_volume_controller.specs.Mono.{handled_clipping}
 use Rattle.mono_input_volume_controller.specs.SameVolumes.{same_volumes}
 use Rattle.mono_input_volume_controller.proofs.ClippingSteps.{between, volumes_decide}
-use Rattle.input_volume_controller.specs.declared.channels.ChannelCall.TheVariants.{Clipping}
-use Rattle.input_volume_controller.specs.Channels.{called, each_called}
+use Rattle.input_volume_controller.specs.Channels.{Clipping, called, each_called}
 use Rattle.input_volume_controller.specs.Control.{with_since, with_channels}
 use Rattle.input_volume_controller.specs.ControlCalls.{aggregated, lower_channels}
 use Rattle.input_volume_controller.specs.Controller.{Controller}

@@ -2,12 +2,11 @@
 use mathlib.Core.Path.{◌≡◌, refl}
 use mathlib.Core.Bool.{Bool, true, false}
 use Prim.Native.Nat.{ℕ, zero, suc}
+use Rattle.std.specs.Prelude.{None, Option, Some}
 use Rattle.numbers.specs.Flag.{is_set, flag_of}
 use Rattle.clipping_predictor.specs.declared.ClippingPredictor.{ClippingPredictor}
 use Rattle.clipping_predictor.specs.declared.settings.ClippingPredictorMode.{ClippingPredictorMode}
 use Rattle.clipping_predictor.specs.declared.settings.ClippingPredictorMode.TheVariants.{ClippingEventPrediction, AdaptiveStepClippingPeakPrediction, FixedStepClippingPeakPrediction}
-use Rattle.input_volume_controller.specs.declared.Applied.{Applied}
-use Rattle.input_volume_controller.specs.declared.Applied.TheVariants.{Nothing, Volume}
 use Rattle.input_volume_controller.specs.declared.volume_control.VolumeControl.{VolumeControl}
 use Rattle.input_volume_controller.specs.Plain.{mode_of, mode_number, applied_of, is_pending, pending_volume, whole_control, plain_control, whole_predictor, plain_predictor}
 
@@ -36,9 +35,9 @@ unfolding is_set
 flag_again true = refl
 flag_again false = refl
 
-applied_again : (a : Applied) → applied_of (is_pending a) (pending_volume a) ≡ a
-applied_again Nothing = refl
-applied_again (Volume v) = refl
+applied_again : (a : Option ℕ) → applied_of (is_pending a) (pending_volume a) ≡ a
+applied_again None = refl
+applied_again (Some v) = refl
 
 pub control_again : (c : VolumeControl) → whole_control (plain_control c) ≡ c
 unfolding whole_control plain_control

@@ -1,36 +1,32 @@
--- A making within a profile: what is decided by whether the profile takes the settings, and a making with the arguments that the machine reads back. Assumes nothing.
-use mathlib.Core.Path.{◌≡◌, sym, ap, subst, ◌∙◌}
+-- A making within a profile: by whether the profile takes the settings, and a making with the arguments that the machine reads back. Assumes nothing.
+use mathlib.Core.Path.{◌≡◌, ap, subst, ◌∙◌}
 use mathlib.Core.Bool.{Bool, true, false}
 use Prim.Native.Nat.{◌^◌, ◌<◌}
 use lib.IntN.{ℤ}
 use lib.Signed.{mag}
-use Rattle.numbers.specs.declared.refusal.Outcome.{Outcome}
-use Rattle.numbers.specs.declared.refusal.Outcome.TheVariants.{Accepted, Refused}
+use Rattle.std.specs.Prelude.{Ok, Result}
 use Rattle.numbers.specs.declared.refusal.Refusal.{Refusal}
 use Rattle.numbers.specs.declared.refusal.Refusal.TheVariants.{ClassroomProfile}
 use Rattle.numbers.proofs.Signs.{read, again}
 use Rattle.clipping_predictor.specs.declared.settings.ClippingPredictorConfig.{ClippingPredictorConfig}
 use Rattle.mono_input_volume_controller.specs.declared.config.Config.{Config}
 use Rattle.mono_input_volume_controller.specs.declared.profile.Profile.{Profile}
-use Rattle.input_volume_controller.specs.declared.making.Decided.{Decided}
-use Rattle.input_volume_controller.specs.Controller.{Making, unmade, DecidedAs}
+use Rattle.input_volume_controller.specs.Controller.{Making, unmade}
 use Rattle.input_volume_controller.specs.Profile.{refused_outside, within_profile, making_in}
 
 -- ---- what is decided
 
-module _ {plain : Decided} (making : Making) (h : DecidedAs making plain) where
-  pub within_taken : {taken : Bool} → taken ≡ true → DecidedAs (within_profile taken making) plain
-  within_taken t = subst (λ (b : Bool). DecidedAs (within_profile b making) plain) (sym t) h
+module _ (plain : Making) where
+  -- what the plain controller refuses stays refused
+  pub within_refused : (taken : Bool) {cause : Refusal} → plain ≡ unmade cause → within_profile taken plain ≡ unmade cause
+  within_refused true e = e
+  within_refused false e = ap (λ (m : Making). refused_outside m.answer m) e
 
-  module _ {taken : Bool} (t : taken ≡ false) where
-    outside_is : {answer : Outcome} → plain.answer ≡ answer → refused_outside answer making ≡ within_profile taken making
-    outside_is e = sym (ap (λ (b : Bool). within_profile b making) t ∙ ap (λ (o : Outcome). refused_outside o making) (sym (ap (λ (m : Making). m.answer) h.is) ∙ e))
+  pub within_outside : {taken : Bool} → taken ≡ false → plain.answer ≡ Ok tt → within_profile taken plain ≡ unmade ClassroomProfile
+  within_outside t e = ap (λ (b : Bool). within_profile b plain) t ∙ ap (λ (o : Result (Unit {0}) Refusal). refused_outside o plain) e
 
-    pub within_refused : {cause : Refusal} → plain.answer ≡ Refused cause → DecidedAs (within_profile taken making) plain
-    within_refused e = subst (λ (m : Making). DecidedAs m plain) (outside_is e) h
-
-    pub within_outside : {r : Decided} → plain.answer ≡ Accepted → DecidedAs (unmade ClassroomProfile) r → DecidedAs (within_profile taken making) r
-    within_outside {r} e k = subst (λ (m : Making). DecidedAs m r) (outside_is e) k
+  pub within_taken : {taken : Bool} → taken ≡ true → within_profile taken plain ≡ plain
+  within_taken t = ap (λ (b : Bool). within_profile b plain) t
 
 -- ---- arguments
 

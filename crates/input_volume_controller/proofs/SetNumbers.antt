@@ -6,8 +6,7 @@ use native.Mathlib.Omega.{arith}
 use lib.Dec.{T}
 use lib.IntN.{ℤ, pos, nat_abs}
 use lib.ListN.{length, length-map, replicate}
-use Rattle.numbers.specs.declared.natural.Natural.{Natural}
-use Rattle.numbers.specs.declared.natural.Natural.TheVariants.{Number, Outside}
+use Rattle.std.specs.Prelude.{None, Option, Some}
 use Rattle.numbers.specs.Natural.{within_of}
 use Rattle.numbers.proofs.Ranges.{told}
 use Rattle.numbers.proofs.Signs.{clash}
@@ -34,11 +33,11 @@ whole : (s : Volumes) (numbers : List ℕ) → s ≡ number_set numbers → T (a
 whole outside_set numbers e = clash (sym (ap are_numbers e))
 whole (number_set others) numbers e = tt
 
-told_next : (volume : ℤ) (volumes : List ℤ) (v : Natural) (s : Volumes) → within_of 0 max_input_volume volume ≡ v → (T (are_numbers s) → ToldSet volumes (list_in s)) → T (are_numbers (and_volume v s))
+told_next : (volume : ℤ) (volumes : List ℤ) (v : Option ℕ) (s : Volumes) → within_of 0 max_input_volume volume ≡ v → (T (are_numbers s) → ToldSet volumes (list_in s)) → T (are_numbers (and_volume v s))
     → ToldSet (volume ∷ volumes) (list_in (and_volume v s))
-told_next volume volumes Outside s e h t = absurd t
-told_next volume volumes (Number n) outside_set e h t = absurd t
-told_next volume volumes (Number n) (number_set numbers) e h t =
+told_next volume volumes None s e h t = absurd t
+told_next volume volumes (Some n) outside_set e h t = absurd t
+told_next volume volumes (Some n) (number_set numbers) e h t =
     let one = told 0 max_input_volume volume n e in
     let rest = h tt in
     record { is = λ i. one.is i ∷ rest.is i; most = (one.most, rest.most) }
@@ -70,7 +69,7 @@ pub length_told : (volumes : List ℤ) (numbers : List ℕ) → numbers_of volum
 length_told volumes numbers e = sym (length-map numbers pos) ∙ ap length (sym (told_set volumes numbers e).is)
 
 -- of equal volumes, each of them a number
-pub equal_numbers : (volume : ℤ) (v n : ℕ) → within_of 0 max_input_volume volume ≡ Number v → numbers_of (equal_volumes volume n) ≡ number_set (replicate n v)
+pub equal_numbers : (volume : ℤ) (v n : ℕ) → within_of 0 max_input_volume volume ≡ Some v → numbers_of (equal_volumes volume n) ≡ number_set (replicate n v)
 unfolding numbers_of
 equal_numbers volume v zero e = refl
 equal_numbers volume v (suc n) e = λ i. and_volume (e i) (equal_numbers volume v n e i)

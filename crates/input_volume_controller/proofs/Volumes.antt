@@ -9,35 +9,34 @@ use lib.IntN.{ℤ, pos, negsuc}
 use lib.Signed.{mag, ◌≤ℤ◌}
 use lib.Ieee.{Float}
 use lib.ListN.{length, length-map}
+use Rattle.std.specs.Prelude.{Option, Some}
+use Rattle.clipping_predictor.specs.Predictor.{max_channels}
 use Rattle.mono_input_volume_controller.specs.declared.mono.MonoInputVolumeController.{MonoInputVolumeController}
-use Rattle.mono_input_volume_controller.specs.declared.speech_level.SpeechLevel.{SpeechLevel}
-use Rattle.input_volume_controller.specs.declared.channels.ChannelCall.{ChannelCall}
+use Rattle.input_volume_controller.specs.Channels.{ChannelCall, channels_of, called, each_called, aggregate_of}
 use Rattle.input_volume_controller.specs.declared.channels.Channels.{Channels}
 use Rattle.input_volume_controller.specs.declared.channels.Aggregate.{Aggregate}
-use Rattle.input_volume_controller.specs.declared.Applied.{Applied}
-use Rattle.input_volume_controller.specs.declared.Applied.TheVariants.{Volume}
 use Rattle.input_volume_controller.specs.declared.volume_control.VolumeControl.{VolumeControl}
 use Rattle.mono_input_volume_controller.specs.SpeechLevel.{lowest_db, highest_db}
 use Rattle.mono_input_volume_controller.specs.MonoState.{max_input_volume}
-use Rattle.input_volume_controller.specs.Channels.{channels_of, called, each_called, aggregate_of}
+use Rattle.mono_input_volume_controller.specs.MonoState as Mono
 use Rattle.input_volume_controller.specs.Channels as Channels
-use Rattle.input_volume_controller.specs.Control.{Control, control_of, Good, Becomes, with_channels, with_since, with_used, with_applied, with_volume}
+use Rattle.input_volume_controller.specs.Control.{Control, control_of, Good, Becomes, with_channels, with_since, with_used, with_applied, with_volume, each_channel}
 use Rattle.input_volume_controller.specs.ControlCalls.{raised_for, aggregated, with_applied_input_volumes, initialize, switch_capture, lower_channels, process_channels}
-use Rattle.input_volume_controller.proofs.ChannelLists.{length_given}
+use Rattle.input_volume_controller.proofs.ChannelLists.{all_called, length_given}
 
 -- ---- the minimum
 
-above : (least volume applied : ℕ) → (applied ≡ 0 → ⊥) → max volume least ≡ raised_for (Volume applied) least volume
+above : (least volume applied : ℕ) → (applied ≡ 0 → ⊥) → max volume least ≡ raised_for (Some applied) least volume
 unfolding raised_for
 above least volume zero n = absurd (n refl)
 above least volume (suc k) n = refl
 
 module _ (applied least volume : ℕ) where
-  pub raised_zero : applied ≡ 0 → volume ≡ raised_for (Volume applied) least volume
+  pub raised_zero : applied ≡ 0 → volume ≡ raised_for (Some applied) least volume
   unfolding raised_for
   raised_zero e = rw e
 
-  pub raised_above : (applied ≡ 0 → ⊥) → max volume least ≡ raised_for (Volume applied) least volume
+  pub raised_above : (applied ≡ 0 → ⊥) → max volume least ≡ raised_for (Some applied) least volume
   raised_above n = above least volume applied n
 
 -- ---- one change each
@@ -54,6 +53,12 @@ module _ (c : VolumeControl) (good : Good c) where
     good = record { settings = good.settings; channels = b.good; volume = good.volume };
     is = λ i. with_channels (b.is i) (control_of c);
   }
+
+  pub each_channel_lem : {post : ℕ → MonoInputVolumeController → MonoInputVolumeController → Type 0} (channels : Channels) → Channels.EachCalled post c.channels channels → (call : ChannelCall)
+      → ((i : ℕ) (m n : MonoInputVolumeController) → i < max_channels → Mono.Good m → post i m n → Mono.Becomes (called call m) n)
+      → Becomes (each_channel call (control_of c)) (record { settings = c.settings; channels = channels; since = c.since; used = c.used; applied = c.applied; volume = c.volume; controlling = c.controlling })
+  unfolding control_of
+  each_channel_lem channels all call is = with_channels_lem channels _ (all_called c.channels channels good.channels all call is)
 
   pub with_used_lem : (used : Bool) → Becomes (with_used used (control_of c)) (record { settings = c.settings; channels = c.channels; since = c.since; used = used; applied = c.applied; volume = c.volume; controlling = c.controlling })
   unfolding control_of
@@ -72,7 +77,7 @@ module _ (c : VolumeControl) (good : Good c) where
       record { good = record { settings = good.settings; channels = good.channels; volume = h }; is = λ i. with_volume (v i) (k i) (control_of c) }
 
   -- the channels put in, and the volume taken with one volume pending and another left so
-  pub channels_left : (channels : Channels) (pending left : Applied) (a : Aggregate) (volume : ℕ) → Channels.Good channels → volume ≤ max_input_volume
+  pub channels_left : (channels : Channels) (pending left : Option ℕ) (a : Aggregate) (volume : ℕ) → Channels.Good channels → volume ≤ max_input_volume
       → a ≡ aggregate_of (channels_of channels) → volume ≡ raised_for pending c.settings.least a.volume
       → Becomes (with_applied left (aggregated (with_applied pending (with_channels (channels_of channels) (control_of c)))))
       (record { settings = c.settings; channels = channels; since = c.since; used = c.used; applied = left; volume = volume; controlling = a.channel })
@@ -103,7 +108,7 @@ module _ (c : Control) where
   unfolding lower_channels aggregated
   lower_count step = called_count _ c.channels
 
-  pub process_count : (probability : Float) (level : SpeechLevel) → length (process_channels probability level c).channels ≡ length c.channels
+  pub process_count : (probability : Float) (level : Option Float) → length (process_channels probability level c).channels ≡ length c.channels
   unfolding process_channels aggregated
   process_count probability level = called_count _ c.channels
 

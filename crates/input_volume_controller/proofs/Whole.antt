@@ -13,11 +13,11 @@ use mir.Val.{of_z, to_z, SFits}
 use mir.ValLaws.{to_z-of_z}
 use borrow.Author.Tests.{lt-ltb, le-ltb}
 use lib.ListN.{length, length-map, get_or}
+use Rattle.std.specs.Prelude.{Err, None, Ok}
 use Rattle.numbers.specs.declared.refusal.Refusal.{Refusal}
 use Rattle.numbers.specs.Listed.{listed}
 use Rattle.numbers.proofs.Listed.{length_listed, get_d_listed}
 use Rattle.clipping_predictor_level_buffer.specs.declared.level.Level.{Level}
-use Rattle.clipping_predictor_level_buffer.specs.declared.Stored.TheVariants.{Missing}
 use Rattle.clipping_predictor_level_buffer.specs.Ring.{stored, stored_at}
 use Rattle.clipping_predictor.specs.declared.modes.Estimated.{Estimated}
 use Rattle.clipping_predictor.specs.declared.ClippingPredictor.{ClippingPredictor}
@@ -26,12 +26,11 @@ use Rattle.clipping_predictor.specs.Predictor as PredictorOf
 use Rattle.clipping_predictor.specs.AllRings.{predicted_by}
 use Rattle.input_volume_controller.specs.declared.volume_control.VolumeControl.{VolumeControl}
 use Rattle.input_volume_controller.specs.declared.InputVolumeController.{InputVolumeController}
-use Rattle.input_volume_controller.specs.declared.Analysis.TheVariants.{Accepted, Refused}
 use Rattle.input_volume_controller.specs.declared.Analyzed.{Analyzed}
 use Rattle.input_volume_controller.specs.declared.limits.Limits.{Limits}
 use Rattle.input_volume_controller.specs.declared.volume_set.VolumeSet.{VolumeSet}
 use Rattle.input_volume_controller.specs.Volumes.{Volumes, numbers_of, are_numbers, numbers_in}
-use Rattle.input_volume_controller.specs.VolumeSet.{levels_of, volumes_if, volumes_in, SetOf}
+use Rattle.input_volume_controller.specs.VolumeSet.{levels_of, bytes_in, is_inside, volumes_if, volumes_in, SetOf}
 use Rattle.input_volume_controller.specs.Limits.{is_within}
 use Rattle.input_volume_controller.specs.Control.{Control, control_of}
 use Rattle.input_volume_controller.specs.Control as ControlOf
@@ -135,7 +134,7 @@ pub records_some : (p : ClippingPredictor) (channel : ℕ) → channel < p.chann
 unfolding PredictorOf.view_of
 records_some p channel h = sym (get_d_listed (λ c. stored (ring_at p c)) p.channels channel [] h)
 
-pub stored_none : (p : ClippingPredictor) (channel i : ℕ) → p.channels ≤ channel → Missing ≡ stored_at (get_or (PredictorOf.view_of p).rings channel []) i
+pub stored_none : (p : ClippingPredictor) (channel i : ℕ) → p.channels ≤ channel → None ≡ stored_at (get_or (PredictorOf.view_of p).rings channel []) i
 unfolding stored_at
 stored_none p channel i h = ap (λ (l : List Level). stored_at l i) (records_none p channel h)
 
@@ -144,10 +143,10 @@ stored_some p channel i h = ap (λ (l : List Level). stored_at l i) (records_som
 
 -- ---- an accepted frame
 
-not_refused : (near : Bool) (cause : Refusal) → Accepted near ≡ Refused cause → ⊥
+not_refused : (near : Bool) (cause : Refusal) → Ok near ≡ Err cause → ⊥
 not_refused near cause e = let z : ◌≡◌ {A = ℕ} 0 1 = cc in omega arith
 
-pub framed : (s : Stepped) (near : Bool) (state : Controller) (r : InputVolumeController) → s ≡ record { reply = mark near; state = state } → Becomes state r → Framed s (record { answer = Accepted near; controller = r })
+pub framed : (s : Stepped) (near : Bool) (state : Controller) (r : InputVolumeController) → s ≡ record { reply = mark near; state = state } → Becomes state r → Framed s (record { answer = Ok near; controller = r })
 framed s near state r e b = record {
   good = b.good;
   reply = ap (λ (x : Stepped). x.reply) (sym e);
@@ -180,20 +179,20 @@ module _ (most : Limits) (self : InputVolumeController) (good : Good self) (volu
   channels = length (view_of self).control.channels
 
   -- as many as the channels, 1 to 8
-  numbers_at : (n : ℕ) → n ≡ self.control.channels.count → eqb (length volumes) n ≡ true → volumes_in n set ≡ numbers_of volumes
+  numbers_at : (n : ℕ) → n ≡ self.control.channels.count → eqb (length volumes) n ≡ true → volumes_in n set.levels ≡ numbers_of volumes
   numbers_at n e t =
       let k = eqb→eq (length volumes) n (subst T (sym t) tt) in
       let c = good.control.channels in
-      subst (λ (m : ℕ). volumes_in m set ≡ numbers_of volumes) k (is.numbers (omega (arith, c.low)) (omega (arith, c.high)))
+      subst (λ (m : ℕ). volumes_in m set.levels ≡ numbers_of volumes) k (is.numbers (omega (arith, c.low)) (omega (arith, c.high)))
 
   set_step : analyze_set most set samples lent (view_of self) ≡ step (view_of self) (frame most volumes samples lent)
   unfolding analyze_input_audio volumes_in
   set_step =
       let fits = frame_fits channels samples lent in
       let within = is_within most channels samples in
-      let levels = levels_of set.levels channels in
-      ap (λ (n : ℕ). unless_refused (tested_as (eqb n channels) set.inside fits within) levels samples lent (view_of self)) is.count
-      ∙ counted_by fits within samples lent (view_of self) (eqb (length volumes) channels) set.inside levels (numbers_of volumes) (numbers_at channels (whole_count self))
+      let levels = levels_of (bytes_in set.levels) channels in
+      ap (λ (n : ℕ). unless_refused (tested_as (eqb n channels) (is_inside set.levels) fits within) levels samples lent (view_of self)) is.count
+      ∙ counted_by fits within samples lent (view_of self) (eqb (length volumes) channels) (is_inside set.levels) levels (numbers_of volumes) (numbers_at channels (whole_count self))
 
   pub of_set : {r : Analyzed} → AnalyzedSetOf most self set samples lent r → AnalyzedEachOf most self volumes samples lent r
   of_set t = record {
@@ -201,16 +200,10 @@ module _ (most : Limits) (self : InputVolumeController) (good : Good self) (volu
     same = t.same;
   }
 
--- an entry's limits are those that it made
-pub at_limits : {made most : Limits} {self : InputVolumeController} {volumes : List ℤ} {samples : ℕ} {lent : List Float} {r : Analyzed} → made ≡ most → AnalyzedEachOf made self volumes samples lent r
-    → AnalyzedEachOf most self volumes samples lent r
-at_limits {self = self} {volumes = volumes} {samples = samples} {lent = lent} {r = r} e a = subst (λ (limits : Limits). AnalyzedEachOf limits self volumes samples lent r) e a
-
 -- with one volume, which the machine has read back
-pub one_at_limits : {made most : Limits} {self : InputVolumeController} {samples : ℕ} {lent : List Float} {r : Analyzed} (volume : ℤ) → SFits w32 volume → made ≡ most
-    → AnalyzedOf made self (to_z w32 (of_z w32 volume)) samples lent r → AnalyzedOf most self volume samples lent r
-one_at_limits {made = made} {self = self} {samples = samples} {lent = lent} {r = r} volume fits e a =
-    at_limits e (subst (λ (v : ℤ). AnalyzedOf made self v samples lent r) (to_z-of_z w32 volume fits) a)
+pub read_back : {most : Limits} {self : InputVolumeController} {samples : ℕ} {lent : List Float} {r : Analyzed} (volume : ℤ) → SFits w32 volume → AnalyzedOf most self (to_z w32 (of_z w32 volume)) samples lent r
+    → AnalyzedOf most self volume samples lent r
+read_back {most = most} {self = self} {samples = samples} {lent = lent} {r = r} volume fits a = subst (λ (v : ℤ). AnalyzedOf most self v samples lent r) (to_z-of_z w32 volume fits) a
 
 -- a frame within the wait, and after it
 module _ (clipped : Bool) (since wait : ℕ) (c : Controller) where

@@ -1,20 +1,17 @@
 -- Document 01: the four calls on a controller, one step, and a run over a list of calls. Definitions only.
-use Rattle.std.specs.Prelude.{◌≡◌, Bool, List, [], ◌∷◌, ℕ, T, eqb, ℤ, Float, length, get_or}
+use Rattle.std.specs.Prelude.{◌≡◌, Bool, List, [], ◌∷◌, ℕ, T, eqb, ℤ, Float, length, get_or, Result, Ok, Err, Option}
 use Rattle.std.specs.Float.{nan, binary32}
 use Rattle.std.specs.Float.Ieee.{fits}
 use Rattle.numbers.specs.declared.refusal.Refusal.{Refusal}
 use Rattle.clipping_predictor_level_buffer.specs.declared.level.Level.{Level}
 use Rattle.clipping_predictor.specs.Predictor.{Predictor, frame_fits}
-use Rattle.numbers.specs.declared.refusal.Outcome.{Outcome}
-use Rattle.mono_input_volume_controller.specs.declared.speech_level.SpeechLevel.{SpeechLevel}
-use Rattle.input_volume_controller.specs.declared.Analysis.TheVariants.{Refused}
 use Rattle.input_volume_controller.specs.declared.limits.Limits.{Limits}
 use Rattle.input_volume_controller.specs.declared.volume_set.VolumeSet.{VolumeSet}
 use Rattle.input_volume_controller.specs.declared.Analyzed.{Analyzed}
 use Rattle.input_volume_controller.specs.declared.volume_control.VolumeControl.{VolumeControl}
 use Rattle.input_volume_controller.specs.declared.InputVolumeController.{InputVolumeController}
 use Rattle.input_volume_controller.specs.Volumes.{equal_volumes}
-use Rattle.input_volume_controller.specs.VolumeSet.{levels_of}
+use Rattle.input_volume_controller.specs.VolumeSet.{levels_of, bytes_in, is_inside}
 use Rattle.input_volume_controller.specs.Limits.{is_within}
 use Rattle.input_volume_controller.specs.Control.{control_of}
 use Rattle.input_volume_controller.specs.Control as ControlOf
@@ -28,7 +25,7 @@ pub data Call : Type 0 where
   -- the limits of the entry, the volumes of all channels, the samples per channel, and the lent samples: `analyze_input_audio` and `analyze_input_audio_each`, plain and the spotter's
   frame : Limits → List ℤ → ℕ → List Float → Call
   -- the speech probability and level: `recommend_input_volume`
-  recommendation : Float → SpeechLevel → Call
+  recommendation : Float → Option Float → Call
   -- `initialize`
   initialise : Call
   -- `handle_capture_output_used_change`
@@ -86,28 +83,36 @@ pub record Framed (s : Stepped) (r : Analyzed) : Type 0 where
   pub good : Good r.controller
   pub reply : analysis_says r.answer ≡ s.reply
   pub view : view_of r.controller ≡ s.state
-  pub accepted : (cause : Refusal) → r.answer ≡ Refused cause → ⊥
+  pub accepted : (cause : Refusal) → r.answer ≡ Err cause → ⊥
 
 -- a frame whose volumes are taken apart: its tests, and what it does
-abbrev pub set_outcome : Limits → ℕ → VolumeSet → ℕ → List Float → Outcome
-set_outcome most channels set samples lent = tested_as (eqb set.count channels) set.inside (frame_fits channels samples lent) (is_within most channels samples)
+abbrev pub set_outcome : Limits → ℕ → VolumeSet → ℕ → List Float → Result (Unit {0}) Refusal
+set_outcome most channels set samples lent = tested_as (eqb set.count channels) (is_inside set.levels) (frame_fits channels samples lent) (is_within most channels samples)
+
+-- its volumes as bytes, or why it is refused
+abbrev pub bytes_if : Result (Unit {0}) Refusal → List ℕ → Result (List ℕ) Refusal
+bytes_if (Ok tt) levels = Ok levels
+bytes_if (Err cause) levels = Err cause
+
+abbrev pub accepted_volumes : Limits → ℕ → VolumeSet → ℕ → List Float → Result (List ℕ) Refusal
+accepted_volumes most channels set samples lent = bytes_if (set_outcome most channels set samples lent) (bytes_in set.levels)
 
 abbrev pub analyze_set : Limits → VolumeSet → ℕ → List Float → Controller → Stepped
 analyze_set most set samples lent c =
     let channels = length c.control.channels in
-    unless_refused (set_outcome most channels set samples lent) (levels_of set.levels channels) samples lent c
+    unless_refused (set_outcome most channels set samples lent) (levels_of (bytes_in set.levels) channels) samples lent c
 
 pub record AnalyzedSetOf (most : Limits) (self : InputVolumeController) (set : VolumeSet) (samples : ℕ) (lent : List Float) (r : Analyzed) : Type 0 where
   pub good : Good r.controller
   pub typed : (i : ℕ) → T (fits binary32 (get_or lent i nan))
   pub reply : analysis_says r.answer ≡ (analyze_set most set samples lent (view_of self)).reply
   pub view : view_of r.controller ≡ (analyze_set most set samples lent (view_of self)).state
-  pub same : (cause : Refusal) → r.answer ≡ Refused cause → r.controller ≡ self
+  pub same : (cause : Refusal) → r.answer ≡ Err cause → r.controller ≡ self
 
 -- a frame through an entry with these limits; a refused one hands the very controller back
 pub record AnalyzedEachOf (most : Limits) (self : InputVolumeController) (volumes : List ℤ) (samples : ℕ) (lent : List Float) (r : Analyzed) : Type 0 where
   pub does : Does self (frame most volumes samples lent) (analysis_says r.answer) r.controller
-  pub same : (cause : Refusal) → r.answer ≡ Refused cause → r.controller ≡ self
+  pub same : (cause : Refusal) → r.answer ≡ Err cause → r.controller ≡ self
 
 -- with one volume for all channels. That it is what document 01 says of such a frame is the claim `OneVolume` (claims, specs/OneVolume.antt).
 abbrev pub AnalyzedOf : Limits → InputVolumeController → ℤ → ℕ → List Float → Analyzed → Type 0

@@ -1,11 +1,9 @@
 -- Document 01, "All channels": what is done with every channel's controller, and the lowest of their volumes. A controller's channels stand for the list of their states. Definitions only.
-use Rattle.std.specs.Prelude.{◌≡◌, Bool, true, false, List, [], ◌∷◌, map, ℕ, ◌+◌, ◌≤◌, ◌<◌, ltb, length, get_or}
+use Rattle.std.specs.Prelude.{◌≡◌, Bool, true, false, List, [], ◌∷◌, map, ℕ, ◌+◌, ◌≤◌, ◌<◌, ltb, length, get_or, Float, ℤ, Option}
 use Rattle.std.specs.Float.{nan}
 use Rattle.numbers.specs.Listed.{listed}
 use Rattle.clipping_predictor.specs.Predictor.{max_channels}
 use Rattle.mono_input_volume_controller.specs.declared.mono.MonoInputVolumeController.{MonoInputVolumeController}
-use Rattle.input_volume_controller.specs.declared.channels.ChannelCall.{ChannelCall}
-use Rattle.input_volume_controller.specs.declared.channels.ChannelCall.TheVariants.{Initialize, CaptureOutputUsed, StreamAnalogLevel, Clipping, Process}
 use Rattle.input_volume_controller.specs.declared.channels.Channels.{Channels}
 use Rattle.input_volume_controller.specs.declared.channels.Aggregate.{Aggregate}
 use Rattle.mono_input_volume_controller.specs.Mono.{initialized, handled_capture_output_used_change, with_stream_analog_level, handled_clipping}
@@ -52,6 +50,28 @@ pub record Becomes (said : List MonoInputVolumeController) (r : Channels) : Type
   pub is : channels_of r ≡ said
 
 -- ---- one call of every channel
+
+-- what a function that is called with each channel and its place needs: a channel in good order
+abbrev pub MayCall : (ℕ → MonoInputVolumeController → Type 0) → Type 0
+MayCall pre = (channel : ℕ) (m : MonoInputVolumeController) → channel < max_channels → Mono.Good m → pre channel m
+
+-- what it leaves: a channel in good order
+abbrev pub KeepsGood : (ℕ → MonoInputVolumeController → MonoInputVolumeController → Type 0) → Type 0
+KeepsGood post = (channel : ℕ) (m r : MonoInputVolumeController) → channel < max_channels → Mono.Good m → post channel m r → Mono.Good r
+
+-- it has been called with each channel, and its result stands in the channel's place
+pub record EachCalled (post : ℕ → MonoInputVolumeController → MonoInputVolumeController → Type 0) (c r : Channels) : Type 0 where
+  pub good : Good r
+  pub count : r.count ≡ c.count
+  pub each : (channel : ℕ) → channel < c.count → post channel (channel_at c channel) (channel_at r channel)
+
+-- the calls that every channel gets
+pub data ChannelCall : Type 0 where
+  Initialize : ChannelCall
+  CaptureOutputUsed : Bool → ChannelCall
+  StreamAnalogLevel : ℕ → ChannelCall
+  Clipping : ℕ → ChannelCall
+  Process : Option ℤ → Float → ChannelCall
 
 unfoldable pub called : ChannelCall → MonoInputVolumeController → MonoInputVolumeController
 unfolding handled_capture_output_used_change handled_clipping processed

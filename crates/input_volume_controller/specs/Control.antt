@@ -1,14 +1,12 @@
 -- All of the controller but its predictor: the settings, the channels, the count of frames since clipping, the capture switch, the applied volume and the controller's volume; its good order,
 -- and the changes that its calls are made of. Definitions only.
-use Rattle.std.specs.Prelude.{◌≡◌, Bool, List, ℕ, ◌≤◌}
+use Rattle.std.specs.Prelude.{◌≡◌, Bool, List, ℕ, ◌≤◌, Option}
 use Rattle.mono_input_volume_controller.specs.declared.config.Settings.{Settings}
 use Rattle.mono_input_volume_controller.specs.declared.mono.MonoInputVolumeController.{MonoInputVolumeController}
-use Rattle.input_volume_controller.specs.declared.channels.ChannelCall.{ChannelCall}
-use Rattle.input_volume_controller.specs.declared.Applied.{Applied}
+use Rattle.input_volume_controller.specs.Channels.{ChannelCall, channels_of, each_called}
 use Rattle.input_volume_controller.specs.declared.volume_control.VolumeControl.{VolumeControl}
 use Rattle.mono_input_volume_controller.specs.MonoState.{max_input_volume}
 use Rattle.mono_input_volume_controller.specs.Config as Config
-use Rattle.input_volume_controller.specs.Channels.{channels_of, each_called}
 use Rattle.input_volume_controller.specs.Channels as Channels
 
 -- frames_since_clipped is `since`, capture_output_used `used`, applied_input_volume `applied`, recommended_input_volume `volume`, channel_controlling_gain `controlling`
@@ -17,7 +15,7 @@ pub record Control : Type 0 where
   pub channels : List MonoInputVolumeController
   pub since : ℕ
   pub used : Bool
-  pub applied : Applied
+  pub applied : Option ℕ
   pub volume : ℕ
   pub controlling : ℕ
 
@@ -79,7 +77,7 @@ with_used used c = record {
   controlling = c.controlling;
 }
 
-abbrev pub with_applied : Applied → Control → Control
+abbrev pub with_applied : Option ℕ → Control → Control
 with_applied applied c = record {
   settings = c.settings;
   channels = c.channels;

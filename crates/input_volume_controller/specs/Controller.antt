@@ -1,28 +1,20 @@
 -- Document 01, "All channels", and document 02 (iv): the controller over its channels as a value, with its rings as lists; its making with any predictor, with causes 1 to 6 and then 7, 14 and 15; its good
 -- order. Definitions only.
-use Rattle.std.specs.Prelude.{◌≡◌, Bool, true, false, ℕ, ◌≤◌, ℤ, pos, negsuc, replicate}
-use Rattle.numbers.specs.declared.natural.Natural.{Natural}
-use Rattle.numbers.specs.declared.natural.Natural.TheVariants.{Number, Outside}
-use Rattle.numbers.specs.declared.refusal.Outcome.{Outcome}
-use Rattle.numbers.specs.declared.refusal.Outcome.TheVariants.{Accepted, Refused}
+use Rattle.std.specs.Prelude.{◌≡◌, Bool, true, false, ℕ, ◌≤◌, ℤ, pos, negsuc, replicate, Result, Ok, Err, None, Option, Some}
 use Rattle.numbers.specs.declared.refusal.Refusal.{Refusal}
 use Rattle.numbers.specs.declared.refusal.Refusal.TheVariants.{ChannelCount}
 use Rattle.numbers.specs.Natural.{within_of}
-use Rattle.numbers.specs.Said.{outcome_says}
+use Rattle.numbers.specs.Said.{said}
 use Rattle.clipping_predictor.specs.declared.settings.ClippingPredictorMode.TheVariants.{AdaptiveStepClippingPeakPrediction}
 use Rattle.clipping_predictor.specs.declared.settings.ClippingPredictorConfig.{ClippingPredictorConfig}
 use Rattle.clipping_predictor.specs.declared.ClippingPredictor.{ClippingPredictor}
 use Rattle.clipping_predictor.specs.declared.settings.Settings as Predictor
-use Rattle.clipping_predictor.specs.declared.settings.Checked as PredictorCheck
-use Rattle.clipping_predictor.specs.declared.settings.Checked.TheVariants as PredictorChecked
 use Rattle.clipping_predictor.specs.Settings.{config_of}
 use Rattle.clipping_predictor.specs.Settings as PredictorSettings
 use Rattle.clipping_predictor.specs.Predictor.{max_channels, Predictor, empty_predictor}
 use Rattle.clipping_predictor.specs.Predictor as PredictorOf
 use Rattle.mono_input_volume_controller.specs.declared.config.Config.{Config}
 use Rattle.mono_input_volume_controller.specs.declared.config.Settings.{Settings}
-use Rattle.mono_input_volume_controller.specs.declared.config.Checked.{Checked}
-use Rattle.input_volume_controller.specs.declared.Applied.TheVariants.{Nothing}
 use Rattle.input_volume_controller.specs.declared.volume_control.VolumeControl.{VolumeControl}
 use Rattle.input_volume_controller.specs.declared.InputVolumeController.{InputVolumeController}
 use Rattle.input_volume_controller.specs.declared.Created.{Created}
@@ -89,7 +81,7 @@ fresh_control s channels = record {
   channels = replicate channels (created s);
   since = s.clipped_wait;
   used = true;
-  applied = Nothing;
+  applied = None;
   volume = 0;
   controlling = 0;
 }
@@ -104,24 +96,24 @@ fresh s channels = fresh_with (predictor_settings s.predicts) s channels
 -- ---- making: causes 1 to 6, and then 7, 14 and 15
 
 pub record Making : Type 0 where
-  pub answer : Outcome
+  pub answer : Result (Unit {0}) Refusal
   pub controller : Controller
 
 -- what stands beside a refusal: a controller of one channel with the default settings and the base's predictor
 abbrev pub unmade : Refusal → Making
-unmade cause = record { answer = Refused cause; controller = fresh (settings_from defaults) 1 }
+unmade cause = record { answer = Err cause; controller = fresh (settings_from defaults) 1 }
 
 -- "It refuses faults of windows, threshold or margin as a predictor's making does"
-unfoldable pub made_with : ℕ → Settings → PredictorCheck.Checked → Making
-made_with channels s (PredictorChecked.Refused cause) = unmade cause
-made_with channels s (PredictorChecked.InOrder p) = record { answer = Accepted; controller = fresh_with p s channels }
+unfoldable pub made_with : ℕ → Settings → Result Predictor.Settings Refusal → Making
+made_with channels s (Err cause) = unmade cause
+made_with channels s (Ok p) = record { answer = Ok tt; controller = fresh_with p s channels }
 
 -- the channel count is tested first, then the settings, then the predictor: "after number 6 and also with the predictor off". The switch is the one of the settings
-unfoldable pub made_of : Natural → Checked → ClippingPredictorConfig → Making
+unfoldable pub made_of : Option ℕ → Result Settings Refusal → ClippingPredictorConfig → Making
 unfolding made_with
-made_of Outside settings predictor = unmade ChannelCount
-made_of (Number channels) (Checked.Refused cause) predictor = unmade cause
-made_of (Number channels) (Checked.InOrder s) predictor = made_with channels s (PredictorSettings.settings_of (switched s.predicts predictor))
+made_of None settings predictor = unmade ChannelCount
+made_of (Some channels) (Err cause) predictor = unmade cause
+made_of (Some channels) (Ok s) predictor = made_with channels s (PredictorSettings.settings_of (switched s.predicts predictor))
 
 -- "The controller takes any of the three modes with its own windows, threshold and margin"
 unfoldable pub making_with : ℤ → Config → ClippingPredictorConfig → Making
@@ -132,19 +124,28 @@ making_with channels config predictor = made_of (within_of 1 max_channels channe
 abbrev pub making_of : ℤ → Config → Making
 making_of channels config = making_with channels config base_predictor
 
--- what the private functions of the making say: d is what to answer and to build, tested, and comes to that making
-pub record DecidedAs (making : Making) (d : Decided) : Type 0 where
+-- what the private functions of the making say: d is tested, and that controller is built of it
+pub record BuildsAs (made : Controller) (d : Decided) : Type 0 where
   pub low : 1 ≤ d.channels
   pub high : d.channels ≤ max_channels
   pub settings : Config.Good d.settings
   pub predictor : Predictor.Settings
-  pub checked : PredictorSettings.settings_of d.predictor ≡ PredictorChecked.InOrder predictor
-  pub is : record { answer = d.answer; controller = fresh_with predictor d.settings d.channels } ≡ making
+  pub checked : PredictorSettings.settings_of d.predictor ≡ Ok predictor
+  pub is : fresh_with predictor d.settings d.channels ≡ made
+
+-- and what is decided is what to build, or why that making is refused
+abbrev pub DecidedAs : Making → Result Decided Refusal → Type 0
+DecidedAs making (Ok d) = (making.answer ≡ Ok tt) × BuildsAs making.controller d
+DecidedAs making (Err cause) = making ≡ unmade cause
+
+-- and this is answered, with d built beside it
+abbrev pub AnsweredAs : Making → Result (Unit {0}) Refusal → Decided → Type 0
+AnsweredAs making answer d = (answer ≡ making.answer) × BuildsAs making.controller d
 
 -- what the contracts of the makings say: r is the making, in good order
 pub record CreatedAs (making : Making) (r : Created) : Type 0 where
   pub good : Good r.controller
-  pub answer : outcome_says r.answer ≡ outcome_says making.answer
+  pub answer : said r.answer ≡ said making.answer
   pub view : view_of r.controller ≡ making.controller
 
 abbrev pub CreatedWith : ℤ → Config → ClippingPredictorConfig → Created → Type 0

@@ -3,8 +3,7 @@
 use Rattle.std.specs.Prelude.{Bool, true, false, not, ◌||◌, List, [], ◌∷◌, ℕ, max, ltb}
 use Rattle.mono_input_volume_controller.specs.declared.mono.MonoInputVolumeController.{MonoInputVolumeController}
 use Rattle.mono_input_volume_controller.specs.SameVolumes.{same_volumes}
-use Rattle.input_volume_controller.specs.declared.channels.ChannelCall.TheVariants.{Clipping}
-use Rattle.input_volume_controller.specs.Channels.{each_called}
+use Rattle.input_volume_controller.specs.Channels.{Clipping, each_called}
 use Rattle.input_volume_controller.specs.Control.{Control}
 
 -- whether a channel of two lists has other volumes

@@ -1,15 +1,12 @@
 -- Document 01, "All channels", and document 02 (xiv) and (viii): a frame with a volume for each channel, through an entry with limits, by the source's `analyze_input_audio`; causes 20, 8, 9 and 18.
 -- Definitions only.
-use Rattle.std.specs.Prelude.{Bool, true, false, ◌||◌, List, ℕ, max, ltb, eqb, ℤ, Float, length}
+use Rattle.std.specs.Prelude.{Bool, true, false, ◌||◌, List, ℕ, max, ltb, eqb, ℤ, Float, length, Err, None, Ok, Option, Result, Some}
 use Rattle.std.specs.Float.Ieee.{lt}
 use Rattle.numbers.specs.declared.refusal.Refusal.{Refusal}
 use Rattle.numbers.specs.declared.refusal.Refusal.TheVariants.{InputVolume, FrameSize, FrameLimits, VolumeCount}
-use Rattle.numbers.specs.declared.refusal.Outcome.{Outcome}
-use Rattle.numbers.specs.declared.refusal.Outcome.TheVariants.{Accepted, Refused}
 use Rattle.numbers.specs.Refusal.{number_of}
 use Rattle.clipping_predictor.specs.declared.modes.Asked.{Asked}
 use Rattle.clipping_predictor.specs.declared.modes.Estimated.{Estimated}
-use Rattle.clipping_predictor.specs.declared.modes.Question.{Question}
 use Rattle.clipping_predictor.specs.Predictor.{Predictor, frame_fits, entered_if, emptied}
 use Rattle.clipping_predictor.specs.AllRings.{predicted_by}
 use Rattle.input_volume_controller.specs.ClippedRatio.{clipped_ratio_of}
@@ -28,11 +25,11 @@ abbrev pub asked_of : Control → Asked
 asked_of c = record { level = c.volume; step = c.settings.step; least = c.settings.floor; most = max_input_volume }
 
 -- what the rings are asked: within the wait nothing
-abbrev pub question_if : Bool → Asked → Question
-question_if true a = Question.Nothing
-question_if false a = Question.Step a
+abbrev pub question_if : Bool → Asked → Option Asked
+question_if true a = None
+question_if false a = Some a
 
-abbrev pub question_of : Control → Question
+abbrev pub question_of : Control → Option Asked
 question_of c = question_if (ltb c.since c.settings.clipped_wait) (asked_of c)
 
 -- "ratio above threshold or a prediction lowers every channel, empties the rings and restarts the wait. The step is clipped_level_step, or the largest predicted step if larger."
@@ -55,15 +52,15 @@ with_volumes_applied volumes c = record { control = with_applied_input_volumes v
 
 -- The tests of a frame. Document 02 (xiv): "It refuses with 20 a set whose length isn't the channel count, then with 8 a set with any volume outside 0 to 255, then as before", with 9; and (viii): "It
 -- refuses with 18 a frame .. with more channels or samples per channel than its own limits, after all refusals of the larger entry".
-abbrev pub tested_as : Bool → Bool → Bool → Bool → Outcome
-tested_as false inside fits within = Refused VolumeCount
-tested_as true false fits within = Refused InputVolume
-tested_as true true false within = Refused FrameSize
-tested_as true true true false = Refused FrameLimits
-tested_as true true true true = Accepted
+abbrev pub tested_as : Bool → Bool → Bool → Bool → Result (Unit {0}) Refusal
+tested_as false inside fits within = Err VolumeCount
+tested_as true false fits within = Err InputVolume
+tested_as true true false within = Err FrameSize
+tested_as true true true false = Err FrameLimits
+tested_as true true true true = Ok tt
 
 -- of a frame with this set, to a controller of so many channels
-abbrev pub frame_outcome : Limits → ℕ → List ℤ → ℕ → List Float → Outcome
+abbrev pub frame_outcome : Limits → ℕ → List ℤ → ℕ → List Float → Result (Unit {0}) Refusal
 frame_outcome most channels volumes samples lent = tested_as (eqb (length volumes) channels) (are_numbers (numbers_of volumes)) (frame_fits channels samples lent) (is_within most channels samples)
 
 -- a refusal hands the state back
@@ -86,9 +83,9 @@ module _ (predicted : Asked → Predictor → Estimated) where
   if_used_by false samples lent c = record { reply = mark false; state = c }
 
   -- a frame that is refused hands the state back; one that is taken applies its volumes first
-  abbrev pub unless_refused_by : Outcome → List ℕ → ℕ → List Float → Controller → Stepped
-  unless_refused_by (Refused cause) volumes samples lent c = refused_with cause c
-  unless_refused_by Accepted volumes samples lent c = if_used_by c.control.used samples lent (with_volumes_applied volumes c)
+  abbrev pub unless_refused_by : Result (Unit {0}) Refusal → List ℕ → ℕ → List Float → Controller → Stepped
+  unless_refused_by (Err cause) volumes samples lent c = refused_with cause c
+  unless_refused_by (Ok tt) volumes samples lent c = if_used_by c.control.used samples lent (with_volumes_applied volumes c)
 
   abbrev pub frame_by : Limits → List ℤ → ℕ → List Float → Controller → Stepped
   frame_by most volumes samples lent c = unless_refused_by (frame_outcome most (length c.control.channels) volumes samples lent) (numbers_in (numbers_of volumes)) samples lent c
@@ -100,7 +97,7 @@ unless_waiting = unless_waiting_by predicted_by
 abbrev pub if_used : Bool → ℕ → List Float → Controller → Stepped
 if_used = if_used_by predicted_by
 
-abbrev pub unless_refused : Outcome → List ℕ → ℕ → List Float → Controller → Stepped
+abbrev pub unless_refused : Result (Unit {0}) Refusal → List ℕ → ℕ → List Float → Controller → Stepped
 unless_refused = unless_refused_by predicted_by
 
 unfoldable pub analyze_input_audio : Limits → List ℤ → ℕ → List Float → Controller → Stepped

@@ -1,11 +1,9 @@
 -- A controller with numbers where it has enums: what passes to C and back. Definitions only.
-use Rattle.std.specs.Prelude.{Bool, true, false, ℕ, zero, suc}
+use Rattle.std.specs.Prelude.{Bool, true, false, ℕ, zero, suc, None, Option, Some}
 use Rattle.numbers.specs.Flag.{is_set, flag_of}
 use Rattle.clipping_predictor.specs.declared.ClippingPredictor.{ClippingPredictor}
 use Rattle.clipping_predictor.specs.declared.settings.ClippingPredictorMode.{ClippingPredictorMode}
 use Rattle.clipping_predictor.specs.declared.settings.ClippingPredictorMode.TheVariants.{ClippingEventPrediction, AdaptiveStepClippingPeakPrediction, FixedStepClippingPeakPrediction}
-use Rattle.input_volume_controller.specs.declared.Applied.{Applied}
-use Rattle.input_volume_controller.specs.declared.Applied.TheVariants.{Nothing, Volume}
 use Rattle.input_volume_controller.specs.declared.volume_control.VolumeControl.{VolumeControl}
 use Rattle.input_volume_controller.specs.declared.plain.PlainControl.{PlainControl}
 use Rattle.input_volume_controller.specs.declared.plain.PlainPredictor.{PlainPredictor}
@@ -20,17 +18,17 @@ mode_number ClippingEventPrediction = 0
 mode_number AdaptiveStepClippingPeakPrediction = 1
 mode_number FixedStepClippingPeakPrediction = 2
 
-abbrev pub applied_of : Bool → ℕ → Applied
-applied_of true volume = Volume volume
-applied_of false volume = Nothing
+abbrev pub applied_of : Bool → ℕ → Option ℕ
+applied_of true volume = Some volume
+applied_of false volume = None
 
-abbrev pub is_pending : Applied → Bool
-is_pending (Volume volume) = true
-is_pending Nothing = false
+abbrev pub is_pending : Option ℕ → Bool
+is_pending (Some volume) = true
+is_pending None = false
 
-abbrev pub pending_volume : Applied → ℕ
-pending_volume (Volume volume) = volume
-pending_volume Nothing = 0
+abbrev pub pending_volume : Option ℕ → ℕ
+pending_volume (Some volume) = volume
+pending_volume None = 0
 
 unfoldable pub whole_control : PlainControl → VolumeControl
 whole_control p = record {

@@ -1,8 +1,7 @@
 -- Document 01, on answers: "a frame's mark or refusal number, a recommendation's volume or none". Definitions only.
-use Rattle.std.specs.Prelude.{Bool, ℕ, ℤ}
+use Rattle.std.specs.Prelude.{Bool, ℕ, ℤ, Err, None, Ok, Option, Result, Some}
+use Rattle.numbers.specs.declared.refusal.Refusal.{Refusal}
 use Rattle.numbers.specs.Refusal.{number_of}
-use Rattle.input_volume_controller.specs.declared.Recommendation.{Recommendation}
-use Rattle.input_volume_controller.specs.declared.Analysis.{Analysis}
 use Rattle.input_volume_controller.specs.Controller.{Controller}
 
 pub data Reply : Type 0 where
@@ -17,13 +16,13 @@ pub data Reply : Type 0 where
   done : Reply
 
 -- document 01's words for each case of the answer enums
-abbrev pub analysis_says : Analysis → Reply
-analysis_says (Analysis.Accepted near) = mark near
-analysis_says (Analysis.Refused cause) = refusal (number_of cause)
+abbrev pub analysis_says : Result Bool Refusal → Reply
+analysis_says (Ok near) = mark near
+analysis_says (Err cause) = refusal (number_of cause)
 
-abbrev pub recommendation_says : Recommendation → Reply
-recommendation_says (Recommendation.Volume v) = volume v
-recommendation_says Recommendation.Nothing = none
+abbrev pub recommendation_says : Option ℤ → Reply
+recommendation_says (Some v) = volume v
+recommendation_says None = none
 
 -- a call's reply, and the state that it hands back
 pub record Stepped : Type 0 where

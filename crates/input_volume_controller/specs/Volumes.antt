@@ -1,7 +1,5 @@
 -- Document 02 (xiv): "the volumes of all channels as one set .., taken whole or not at all". Definitions only.
-use Rattle.std.specs.Prelude.{Bool, true, false, List, [], ◌∷◌, ℕ, min, ℤ, replicate}
-use Rattle.numbers.specs.declared.natural.Natural.{Natural}
-use Rattle.numbers.specs.declared.natural.Natural.TheVariants.{Number, Outside}
+use Rattle.std.specs.Prelude.{Bool, true, false, List, [], ◌∷◌, ℕ, min, ℤ, replicate, None, Option, Some}
 use Rattle.numbers.specs.Natural.{within_of}
 use Rattle.mono_input_volume_controller.specs.MonoState.{max_input_volume}
 
@@ -16,10 +14,10 @@ pub data Volumes : Type 0 where
   outside_set : Volumes
   number_set : List ℕ → Volumes
 
-abbrev pub and_volume : Natural → Volumes → Volumes
-and_volume Outside others = outside_set
-and_volume (Number volume) outside_set = outside_set
-and_volume (Number volume) (number_set volumes) = number_set (volume ∷ volumes)
+abbrev pub and_volume : Option ℕ → Volumes → Volumes
+and_volume None others = outside_set
+and_volume (Some volume) outside_set = outside_set
+and_volume (Some volume) (number_set volumes) = number_set (volume ∷ volumes)
 
 unfoldable pub numbers_of : List ℤ → Volumes
 numbers_of [] = number_set []

@@ -15,19 +15,18 @@ ghost use Rattle.input_volume_controller.specs.Calls.{Framed};
 
 use crate::clipped_ratio::compute_clipped_ratio;
 use crate::volume_control::{VolumeControl, lower_channels, one_frame_more};
-use crate::{Analysis, Analyzed, InputVolumeController};
-use clipping_predictor::{Asked, ClippingPredictor, Heard, Question};
+use crate::{Analyzed, InputVolumeController};
+use clipping_predictor::{Asked, ClippingPredictor, Heard};
 use mono_input_volume_controller::mono::MAX_INPUT_VOLUME;
-use numbers::truth::either;
 
 // What the rings are asked once a frame has entered them: nothing within the wait.
-fn question(control: VolumeControl) -> Question
+fn question(control: VolumeControl) -> Option<Asked>
     ensures { result ≡ question_of (control_of control) }
 {
     if control.since < control.settings.clipped_wait {
-        return Question::Nothing;
+        return None;
     }
-    Question::Step(Asked {
+    Some(Asked {
         level: control.volume,
         step: control.settings.step,
         least: control.settings.floor,
@@ -44,8 +43,8 @@ fn differ(clipped: bool, control: VolumeControl, drop: u8, other: u8) -> bool
     if drop == other {
         return false;
     }
-    let one = either(clipped, 0 < drop);
-    let two = either(clipped, 0 < other);
+    let one = clipped || drop > 0;
+    let two = clipped || other > 0;
     if !one {
         return two;
     }
@@ -53,11 +52,9 @@ fn differ(clipped: bool, control: VolumeControl, drop: u8, other: u8) -> bool
         return true;
     }
     let step = control.settings.step;
-    let channels = control.channels;
-    channels.lower_differently(
-        numbers::byte::larger(step, drop),
-        numbers::byte::larger(step, other),
-    )
+    control
+        .channels
+        .lower_differently(step.max(drop), step.max(other))
 }
 
 // The wait is over: clipping that is seen or predicted lowers every channel and empties the rings.
@@ -68,19 +65,20 @@ fn tested(control: VolumeControl, heard: Heard, clipped: bool) -> Analyzed
     let e = heard.estimated;
     let predictor = heard.predictor;
     let near = differ(clipped, control, e.low, e.high);
-    if !either(clipped, 0 < e.drop) {
+    let lowers = clipped || e.drop > 0;
+    if !lowers {
         return Analyzed {
             controller: InputVolumeController { control, predictor },
-            answer: Analysis::Accepted(near),
+            answer: Ok(near),
         };
     }
-    let step = numbers::byte::larger(control.settings.step, e.drop);
+    let step = control.settings.step.max(e.drop);
     Analyzed {
         controller: InputVolumeController {
             control: lower_channels(control, step),
             predictor: predictor.reset(),
         },
-        answer: Analysis::Accepted(near),
+        answer: Ok(near),
     }
 }
 
@@ -96,7 +94,7 @@ fn entered(control: VolumeControl, heard: Heard, samples: usize) -> Analyzed
                 control: one_frame_more(control),
                 predictor,
             },
-            answer: Analysis::Accepted(false),
+            answer: Ok(false),
         };
     }
     let ratio = compute_clipped_ratio(heard.clipped, samples);
@@ -120,6 +118,6 @@ pub fn accepted(
     }
     Analyzed {
         controller: InputVolumeController { control, predictor },
-        answer: Analysis::Accepted(false),
+        answer: Ok(false),
     }
 }

@@ -3,8 +3,8 @@
 #![tactic(auto)]
 
 ghost use Rattle.std.specs.Prelude.{◌≡◌, [], pos, get_or};
-ghost use Rattle.clipping_predictor_level_buffer.specs.Ring.{stored_says, stored_at};
-ghost use Rattle.clipping_predictor_level_buffer.specs.Metrics.{metrics_says};
+ghost use Rattle.numbers.specs.Said.{said};
+ghost use Rattle.clipping_predictor_level_buffer.specs.Ring.{stored_at};
 ghost use Rattle.input_volume_controller.specs.Controller.{view_of, Good, base_predictor, CreatedWith, CreatedOf};
 ghost use Rattle.input_volume_controller.specs.Profile.{CreatedIn};
 ghost use Rattle.input_volume_controller.specs.Reply.{done, recommendation_says};
@@ -12,19 +12,18 @@ ghost use Rattle.input_volume_controller.specs.Limits.{plain_limits, spotter_lim
 ghost use Rattle.input_volume_controller.specs.Calls.{recommendation, initialise, capture_switch, Does, AnalyzedOf, AnalyzedEachOf, AnalyzedSetOf};
 ghost use Rattle.input_volume_controller.specs.ChannelMetrics.{channel_metrics};
 
-pub use crate::limits::{Limits, plain_limits, spotter_limits};
+pub use crate::limits::{Limits, PLAIN, SPOTTER};
 pub use crate::making::default_predictor_config;
-use crate::outcome::frame_outcome;
+use crate::outcome::accepted_volumes;
 pub use crate::volume_control::VolumeControl;
 use crate::volume_control::fresh_control;
 pub use crate::volume_set::{VolumeSet, equal_volumes, lent_volumes};
 use clipping_predictor::settings::ClippingPredictorConfig;
 use clipping_predictor::{ClippingPredictor, create_clipping_predictor};
-use clipping_predictor_level_buffer::{Metrics, Stored};
+use clipping_predictor_level_buffer::level::Level;
 use mono_input_volume_controller::config::Config;
 use mono_input_volume_controller::profile::Profile;
-use mono_input_volume_controller::speech_level::SpeechLevel;
-use numbers::refusal::{Outcome, Refusal};
+use numbers::refusal::Refusal;
 
 mod channels;
 mod clipped_ratio;
@@ -36,13 +35,6 @@ pub mod plain;
 mod volume_control;
 mod volume_set;
 
-// The volume that a frame applied, as long as no recommendation has answered it.
-#[derive(Clone, Copy)]
-pub enum Applied {
-    Nothing,
-    Volume(u8),
-}
-
 #[derive(Clone, Copy)]
 pub struct InputVolumeController {
     pub control: VolumeControl,
@@ -52,33 +44,21 @@ pub struct InputVolumeController {
 // What making answers. A refusal has a controller of one channel with the default settings beside it.
 #[derive(Clone, Copy)]
 pub struct Created {
-    pub answer: Outcome,
+    pub answer: Result<(), Refusal>,
     pub controller: InputVolumeController,
 }
 
-// What a frame answers: whether it is marked near, or why it is refused.
-#[derive(Clone, Copy)]
-pub enum Analysis {
-    Accepted(bool),
-    Refused(Refusal),
-}
-
+// What a frame answers: whether it is marked near, or why it is refused. A refusal hands the controller back too, so it stands beside the answer and not in a Result.
 #[derive(Clone, Copy)]
 pub struct Analyzed {
     pub controller: InputVolumeController,
-    pub answer: Analysis,
+    pub answer: Result<bool, Refusal>,
 }
 
-// The recommended volume, if there is one.
-#[derive(Clone, Copy)]
-pub enum Recommendation {
-    Volume(i32),
-    Nothing,
-}
-
+// The recommended volume, if there is one. No recommendation hands the controller back too, so it stands beside the answer and not in an Option.
 #[derive(Clone, Copy)]
 pub struct Recommended {
-    pub answer: Recommendation,
+    pub answer: Option<i32>,
     pub controller: InputVolumeController,
 }
 
@@ -143,17 +123,13 @@ impl InputVolumeController {
     ) -> Created
         ensures { CreatedIn profile num_capture_channels config predictor result }
     {
-        let decided = making::decide_in(profile, num_capture_channels, config, predictor);
-        let answer = decided.answer;
-        let channels = decided.channels;
-        let settings = decided.settings;
-        let chosen = decided.predictor;
-        let made = create_clipping_predictor(channels as i32, chosen);
+        let (answer, built) = making::answered(profile, num_capture_channels, config, predictor);
+        let made = create_clipping_predictor(built.channels as i32, built.predictor);
         let rings = made.predictor;
         Created {
             answer,
             controller: InputVolumeController {
-                control: fresh_control(channels, settings),
+                control: fresh_control(built.channels, built.settings),
                 predictor: rings,
             },
         }
@@ -183,7 +159,7 @@ impl InputVolumeController {
         c
     }
 
-    // A frame of all channels, one after another, each of `samples_per_channel` samples, with one volume for all. Tests causes 8 and 9, in that order.
+    // README names four entries for frames; each is one line over the two below them. A frame of all channels, one after another, each of `samples_per_channel` samples, with one volume for all. Tests causes 8 and 9, in that order.
     pub fn analyze_input_audio(
         self,
         applied_input_volume: i32,
@@ -193,8 +169,7 @@ impl InputVolumeController {
         requires { Good self }
         ensures { AnalyzedOf plain_limits self applied_input_volume samples_per_channel frame.now result }
     {
-        let wide = plain_limits();
-        self.analyze_within(wide, applied_input_volume, samples_per_channel, frame)
+        self.analyze_within(PLAIN, applied_input_volume, samples_per_channel, frame)
     }
 
     // The same with a volume for each channel, in their order. Tests causes 20, 8 and 9, in that order.
@@ -207,9 +182,7 @@ impl InputVolumeController {
         requires { Good self }
         ensures { AnalyzedEachOf plain_limits self volumes.now samples_per_channel frame.now result }
     {
-        let wide = plain_limits();
-        let set = lent_volumes(volumes);
-        self.analyze_volumes(wide, set, samples_per_channel, frame)
+        self.analyze_volumes(PLAIN, lent_volumes(volumes), samples_per_channel, frame)
     }
 
     // The word spotter's entry, with one volume for all channels. Tests causes 8, 9 and 18, in that order.
@@ -222,8 +195,7 @@ impl InputVolumeController {
         requires { Good self }
         ensures { AnalyzedOf spotter_limits self applied_input_volume samples_per_channel frame.now result }
     {
-        let narrow = spotter_limits();
-        self.analyze_within(narrow, applied_input_volume, samples_per_channel, frame)
+        self.analyze_within(SPOTTER, applied_input_volume, samples_per_channel, frame)
     }
 
     // The same with a volume for each channel. Tests causes 20, 8, 9 and 18, in that order.
@@ -236,9 +208,7 @@ impl InputVolumeController {
         requires { Good self }
         ensures { AnalyzedEachOf spotter_limits self volumes.now samples_per_channel frame.now result }
     {
-        let narrow = spotter_limits();
-        let set = lent_volumes(volumes);
-        self.analyze_volumes(narrow, set, samples_per_channel, frame)
+        self.analyze_volumes(SPOTTER, lent_volumes(volumes), samples_per_channel, frame)
     }
 
     // With one volume for all channels, through an entry with these limits.
@@ -273,16 +243,14 @@ impl InputVolumeController {
         ensures { AnalyzedSetOf most self set samples_per_channel frame.now result }
     {
         let channels = self.control.channels.count;
-        let outcome = frame_outcome(most, channels, set, samples_per_channel, frame);
-        match outcome {
-            Outcome::Refused(cause) => Analyzed {
+        match accepted_volumes(most, channels, set, samples_per_channel, frame) {
+            Err(cause) => Analyzed {
                 controller: self,
-                answer: Analysis::Refused(cause),
+                answer: Err(cause),
             },
-            Outcome::Accepted => {
+            Ok(levels) => {
                 let control = self.control;
                 let predictor = self.predictor;
-                let levels = set.levels;
                 let applied = control.set_applied_input_volumes(levels);
                 frame::accepted(applied, predictor, samples_per_channel, frame)
             }
@@ -292,7 +260,7 @@ impl InputVolumeController {
     pub fn recommend_input_volume(
         self,
         speech_probability: f32,
-        speech_level: SpeechLevel,
+        speech_level: Option<f32>,
     ) -> Recommended
         requires { Good self }
         ensures { Does self (recommendation speech_probability speech_level) (recommendation_says result.answer) result.controller }
@@ -315,22 +283,27 @@ impl InputVolumeController {
     }
 
     // The i-th record that a channel's ring stores, the newest being the 0th.
-    pub fn stored_record(self, channel: usize, i: usize) -> Stored
+    pub fn stored_record(self, channel: usize, i: usize) -> Option<Level>
         requires { Good self }
-        ensures { stored_says result ≡ stored_says (stored_at (get_or (view_of self).predictor.rings channel []) i) }
+        ensures { result ≡ stored_at (get_or (view_of self).predictor.rings channel []) i }
     {
         let predictor = self.predictor;
         if predictor.channels <= channel {
-            return Stored::Missing;
+            return None;
         }
         let ring = predictor.rings[channel];
         ring.stored_at(i)
     }
 
     // The metrics over the records of a channel's ring; a channel that is not there stores nothing.
-    pub fn compute_partial_metrics(self, channel: usize, delay: i32, num_items: i32) -> Metrics
+    pub fn compute_partial_metrics(
+        self,
+        channel: usize,
+        delay: i32,
+        num_items: i32,
+    ) -> Result<Option<Level>, Refusal>
         requires { Good self }
-        ensures { metrics_says result ≡ metrics_says (channel_metrics (view_of self).predictor channel delay num_items) }
+        ensures { said result ≡ said (channel_metrics (view_of self).predictor channel delay num_items) }
     {
         let predictor = self.predictor;
         if predictor.channels <= channel {

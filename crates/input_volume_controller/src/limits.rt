@@ -1,6 +1,6 @@
 // The most that an entry for frames takes.
 ghost use Rattle.std.specs.Prelude.{◌≡◌};
-ghost use Rattle.input_volume_controller.specs.Limits.{plain_limits, spotter_limits, is_within};
+ghost use Rattle.input_volume_controller.specs.Limits.{is_within};
 
 use clipping_predictor::MAX_CHANNELS;
 use clipping_predictor_level_buffer::level::MAX_SAMPLES_PER_CHANNEL;
@@ -13,27 +13,19 @@ pub struct Limits {
 }
 
 // What everybody may pass.
-pub fn plain_limits() -> Limits
-    ensures { result ≡ plain_limits }
-{
-    Limits {
-        channels: MAX_CHANNELS,
-        samples: MAX_SAMPLES_PER_CHANNEL,
-    }
-}
+pub const PLAIN: Limits = Limits {
+    channels: MAX_CHANNELS,
+    samples: MAX_SAMPLES_PER_CHANNEL,
+};
 
 // What the word spotter may pass.
-pub fn spotter_limits() -> Limits
-    ensures { result ≡ spotter_limits }
-{
-    Limits {
-        channels: 2,
-        samples: 160,
-    }
-}
+pub const SPOTTER: Limits = Limits {
+    channels: 2,
+    samples: 160,
+};
 
 pub fn is_within(most: Limits, channels: usize, samples: usize) -> bool
     ensures { result ≡ is_within most channels samples }
 {
-    numbers::truth::both(channels <= most.channels, samples <= most.samples)
+    channels <= most.channels && samples <= most.samples
 }

@@ -1,35 +1,34 @@
-// Whether a frame is taken, and why not: before anything of its controller changes.
+// Whether a frame is taken, with which volumes, and why not: before anything of its controller changes.
 ghost use Rattle.std.specs.Prelude.{◌≡◌, ◌≤◌};
 ghost use Rattle.clipping_predictor.specs.Predictor.{max_channels};
-ghost use Rattle.input_volume_controller.specs.Calls.{set_outcome};
+ghost use Rattle.input_volume_controller.specs.Calls.{accepted_volumes};
 
 use crate::limits::{Limits, is_within};
 use crate::volume_set::VolumeSet;
-use clipping_predictor::frame_fits;
-use numbers::refusal::{Outcome, Refusal};
+use clipping_predictor::{MAX_CHANNELS, frame_fits};
+use numbers::refusal::Refusal;
 
-// Causes 20, 8, 9 and 18, in that order.
-pub fn frame_outcome(
+// The volumes of a frame that is taken. Causes 20, 8, 9 and 18, in that order. Out of line for the stack's sake.
+#[inline(never)]
+pub fn accepted_volumes(
     most: Limits,
     channels: usize,
     set: VolumeSet,
     samples: usize,
     frame: &[f32],
-) -> Outcome
+) -> Result<[u8; MAX_CHANNELS], Refusal>
     requires { channels ≤ max_channels }
-    ensures { result ≡ set_outcome most channels set samples frame.now }
+    ensures { result ≡ accepted_volumes most channels set samples frame.now }
 {
     if set.count != channels {
-        return Outcome::Refused(Refusal::VolumeCount);
+        return Err(Refusal::VolumeCount);
     }
-    if !set.inside {
-        return Outcome::Refused(Refusal::InputVolume);
-    }
+    let levels = set.levels.ok_or(Refusal::InputVolume)?;
     if !frame_fits(channels as u8, samples, frame) {
-        return Outcome::Refused(Refusal::FrameSize);
+        return Err(Refusal::FrameSize);
     }
     if !is_within(most, channels, samples) {
-        return Outcome::Refused(Refusal::FrameLimits);
+        return Err(Refusal::FrameLimits);
     }
-    Outcome::Accepted
+    Ok(levels)
 }

@@ -3,14 +3,12 @@
 ghost use Rattle.std.specs.Prelude.{◌≡◌};
 ghost use Rattle.input_volume_controller.specs.Plain.{mode_of, mode_number, applied_of, is_pending, pending_volume, whole_control, plain_control, whole_predictor, plain_predictor};
 
-use crate::Applied;
 use crate::channels::Channels;
 use crate::volume_control::VolumeControl;
 use clipping_predictor::settings::ClippingPredictorMode;
 use clipping_predictor::{ClippingPredictor, MAX_CHANNELS};
 use clipping_predictor_level_buffer::ClippingPredictorLevelBuffer;
 use mono_input_volume_controller::config::Settings;
-use numbers::flag::{flag_of, is_set};
 
 #[repr(C)]
 #[derive(Clone, Copy)]
@@ -63,30 +61,30 @@ pub fn mode_number(mode: ClippingPredictorMode) -> u32
     }
 }
 
-fn applied_of(pending: bool, volume: u8) -> Applied
+fn applied_of(pending: bool, volume: u8) -> Option<u8>
     ensures { result ≡ applied_of pending volume }
 {
     if pending {
-        return Applied::Volume(volume);
+        return Some(volume);
     }
-    Applied::Nothing
+    None
 }
 
-fn is_pending(applied: Applied) -> bool
+fn is_pending(applied: Option<u8>) -> bool
     ensures { result ≡ is_pending applied }
 {
     match applied {
-        Applied::Volume(_) => true,
-        Applied::Nothing => false,
+        Some(_) => true,
+        None => false,
     }
 }
 
-fn pending_volume(applied: Applied) -> u8
+fn pending_volume(applied: Option<u8>) -> u8
     ensures { result ≡ pending_volume applied }
 {
     match applied {
-        Applied::Volume(volume) => volume,
-        Applied::Nothing => 0,
+        Some(volume) => volume,
+        None => 0,
     }
 }
 
@@ -132,7 +130,7 @@ pub fn whole_predictor(p: PlainPredictor) -> ClippingPredictor
         rings,
         channels: p.channels,
         settings: clipping_predictor::settings::Settings {
-            enabled: is_set(p.enabled),
+            enabled: p.enabled != 0,
             mode: mode_of(p.mode),
             window: p.window,
             reference: p.reference,
@@ -152,7 +150,7 @@ pub fn plain_predictor(p: ClippingPredictor) -> PlainPredictor
     PlainPredictor {
         rings,
         channels: p.channels,
-        enabled: flag_of(settings.enabled),
+        enabled: u32::from(settings.enabled),
         mode: mode_number(mode),
         window: settings.window,
         reference: settings.reference,

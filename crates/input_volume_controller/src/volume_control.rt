@@ -1,25 +1,21 @@
 // All of the controller but its predictor. It is small, and is passed by value where the predictor's rings, which are large, need not be.
-ghost use Rattle.std.specs.Prelude.{◌≡◌, ◌≤◌, ◌<◌};
+ghost use Rattle.std.specs.Prelude.{◌≡◌, ◌≤◌, ◌<◌, None, Some};
 ghost use Rattle.clipping_predictor.specs.Predictor.{max_channels};
-ghost use Rattle.input_volume_controller.specs.declared.Applied.TheVariants.{Volume, Nothing};
 ghost use Rattle.mono_input_volume_controller.specs.Config.{Good as GoodSettings};
 ghost use Rattle.mono_input_volume_controller.specs.SpeechLevel.{GoodTargets, rms_error_of};
 ghost use Rattle.input_volume_controller.specs.Controller.{fresh_control};
 ghost use Rattle.input_volume_controller.specs.Channels.{channels_of, Good as GoodChannels};
 ghost use Rattle.input_volume_controller.specs.VolumeSet.{levels_of};
-ghost use Rattle.input_volume_controller.specs.Control.{with_channels, with_applied, control_of, Good, Becomes, each_channel};
+ghost use Rattle.input_volume_controller.specs.Control.{with_channels, with_applied, control_of, Good, Becomes};
 ghost use Rattle.input_volume_controller.specs.ControlCalls.{raised_for, aggregated, with_applied_input_volumes, lower_channels, one_frame_more, process_channels};
 ghost use Rattle.input_volume_controller.specs.Reply.{done, recommendation_says};
 ghost use Rattle.input_volume_controller.specs.Calls.{recommendation, initialise, capture_switch, ControlDoes};
 
-use crate::channels::{ChannelCall, Channels};
+use crate::channels::Channels;
 use crate::volume_set::lowest;
-use crate::{Applied, Recommendation};
 use clipping_predictor::MAX_CHANNELS;
 use mono_input_volume_controller::config::Settings;
-use mono_input_volume_controller::speech_level::{
-    RmsError, SpeechError, SpeechLevel, get_speech_level_rms_error_db,
-};
+use mono_input_volume_controller::speech_level::get_speech_level_rms_error_db;
 
 #[derive(Clone, Copy)]
 pub struct VolumeControl {
@@ -32,8 +28,8 @@ pub struct VolumeControl {
     pub since: u32,
     // capture_output_used
     pub used: bool,
-    // applied_input_volume
-    pub applied: Applied,
+    // applied_input_volume, as long as no recommendation has answered it
+    pub applied: Option<u8>,
     // recommended_input_volume
     pub volume: u8,
 }
@@ -41,39 +37,39 @@ pub struct VolumeControl {
 // What a recommendation answers.
 #[derive(Clone, Copy)]
 pub struct ControlRecommended {
-    pub answer: Recommendation,
+    pub answer: Option<i32>,
     pub control: VolumeControl,
 }
 
 // Raised to the minimum, unless the volume that is applied is 0.
 fn raised_unless_zero(applied: u8, least: u8, volume: u8) -> u8
-    ensures { result ≡ raised_for (Volume applied) least volume }
+    ensures { result ≡ raised_for (Some applied) least volume }
 {
     if applied == 0 {
         return volume;
     }
-    numbers::byte::larger(volume, least)
+    volume.max(least)
 }
 
 // The lowest volume, raised to the minimum where a volume above 0 is pending.
-fn raised_for(applied: Applied, least: u8, volume: u8) -> u8
+fn raised_for(applied: Option<u8>, least: u8, volume: u8) -> u8
     ensures { result ≡ raised_for applied least volume }
 {
     match applied {
-        Applied::Nothing => volume,
-        Applied::Volume(v) => raised_unless_zero(v, least, volume),
+        None => volume,
+        Some(v) => raised_unless_zero(v, least, volume),
     }
 }
 
 // The speech error for the targets of the settings, which are in range.
-fn speech_error(level: SpeechLevel, min: i32, max: i32) -> RmsError
+fn speech_error(level: Option<f32>, min: i32, max: i32) -> Option<i32>
     requires { GoodTargets min max }
     ensures { result ≡ rms_error_of level min max }
 {
     let answer = get_speech_level_rms_error_db(level, min, max);
     match answer {
-        SpeechError::Error(error) => error,
-        SpeechError::Refused(_) => RmsError::NoError,
+        Ok(error) => error,
+        Err(_) => None,
     }
 }
 
@@ -87,14 +83,14 @@ pub fn fresh_control(count: usize, s: Settings) -> VolumeControl
         channels: Channels::new(count, s),
         since: s.clipped_wait,
         used: true,
-        applied: Applied::Nothing,
+        applied: None,
         volume: 0,
         controlling: 0,
     }
 }
 
 impl VolumeControl {
-    fn with_applied(self, applied: Applied) -> VolumeControl
+    fn with_applied(self, applied: Option<u8>) -> VolumeControl
         requires { Good self }
         ensures { Becomes (with_applied applied (control_of self)) result }
     {
@@ -111,31 +107,24 @@ impl VolumeControl {
         }
     }
 
-    fn each(self, call: ChannelCall) -> VolumeControl
-        requires { Good self }
-        ensures { Becomes (each_channel call (control_of self)) result }
-    {
-        let channels = self.channels;
-        let mut c = self;
-        c.channels = channels.each(call);
-        c
-    }
-
     fn aggregate_channel_levels(self) -> VolumeControl
         requires { Good self }
         ensures { Becomes (aggregated (control_of self)) result }
     {
-        let channels = self.channels;
-        let lowest = channels.aggregate();
-        let applied = self.applied;
+        let lowest = self.channels.aggregate();
         let mut c = self;
-        c.volume = raised_for(applied, self.settings.least, lowest.volume);
+        c.volume = raised_for(self.applied, self.settings.least, lowest.volume);
         c.controlling = lowest.channel;
         c
     }
 
     // The channels are as a call has left them; the volume is taken while one volume is pending, and another is left so. The struct is made once: this is done for every frame.
-    fn with_channels(self, channels: Channels, pending: Applied, left: Applied) -> VolumeControl
+    fn with_channels(
+        self,
+        channels: Channels,
+        pending: Option<u8>,
+        left: Option<u8>,
+    ) -> VolumeControl
         requires { Good self × GoodChannels channels }
         ensures { Becomes (with_applied left (aggregated (with_applied pending (with_channels (channels_of channels) (control_of self))))) result }
     {
@@ -160,11 +149,7 @@ impl VolumeControl {
     {
         let channels = self.channels;
         let applied = lowest(levels, channels.count);
-        self.with_channels(
-            channels.given(levels),
-            Applied::Volume(applied),
-            Applied::Volume(applied),
-        )
+        self.with_channels(channels.given(levels), Some(applied), Some(applied))
     }
 
     // The volume is taken with the applied one still pending.
@@ -172,25 +157,30 @@ impl VolumeControl {
         requires { Good self }
         ensures { ControlDoes self initialise done result }
     {
-        let mut c = self.each(ChannelCall::Initialize);
+        let mut c = self;
+        c.channels = self.channels.each(|_, channel| channel.initialize());
         c.used = true;
         let d = c.aggregate_channel_levels();
-        d.with_applied(Applied::Nothing)
+        d.with_applied(None)
     }
 
     pub fn handle_capture_output_used_change(self, capture_output_used: bool) -> VolumeControl
         requires { Good self }
         ensures { ControlDoes self (capture_switch capture_output_used) done result }
     {
-        let mut c = self.each(ChannelCall::CaptureOutputUsed(capture_output_used));
+        let channels = self.channels;
+        let mut c = self;
+        c.channels = channels.each(|_, channel| channel.handle_capture_output_used_change(
+            capture_output_used,
+        ));
         c.used = capture_output_used;
         c
     }
 
     // The speech error acts on every channel, and the applied volume is answered.
-    fn process_channels(self, speech_probability: f32, speech_level: SpeechLevel) -> VolumeControl
+    fn process_channels(self, speech_probability: f32, speech_level: Option<f32>) -> VolumeControl
         requires { Good self }
-        ensures { Becomes (with_applied Nothing (process_channels speech_probability speech_level (control_of self))) result }
+        ensures { Becomes (with_applied None (process_channels speech_probability speech_level (control_of self))) result }
     {
         let error = speech_error(
             speech_level,
@@ -200,9 +190,9 @@ impl VolumeControl {
         let applied = self.applied;
         let channels = self.channels;
         self.with_channels(
-            channels.each(ChannelCall::Process(error, speech_probability)),
+            channels.each(|_, channel| channel.process(error, speech_probability)),
             applied,
-            Applied::Nothing,
+            None,
         )
     }
 
@@ -210,27 +200,27 @@ impl VolumeControl {
     pub fn recommend_input_volume(
         self,
         speech_probability: f32,
-        speech_level: SpeechLevel,
+        speech_level: Option<f32>,
     ) -> ControlRecommended
         requires { Good self }
         ensures { ControlDoes self (recommendation speech_probability speech_level) (recommendation_says result.answer) result.control }
     {
         let applied = self.applied;
-        let Applied::Volume(volume) = applied else {
+        let Some(volume) = applied else {
             return ControlRecommended {
-                answer: Recommendation::Nothing,
+                answer: None,
                 control: self,
             };
         };
         if !self.used {
             return ControlRecommended {
-                answer: Recommendation::Volume(volume as i32),
+                answer: Some(volume as i32),
                 control: self.aggregate_channel_levels(),
             };
         }
         let processed = self.process_channels(speech_probability, speech_level);
         ControlRecommended {
-            answer: Recommendation::Volume(processed.volume as i32),
+            answer: Some(processed.volume as i32),
             control: processed,
         }
     }
@@ -242,7 +232,10 @@ pub fn lower_channels(control: VolumeControl, step: u8) -> VolumeControl
     requires { Good control }
     ensures { Becomes (lower_channels step (control_of control)) result }
 {
-    let mut c = control.each(ChannelCall::Clipping(step));
+    let mut c = control;
+    c.channels = control
+        .channels
+        .each(|_, channel| channel.handle_clipping(step));
     c.since = 0;
     c.aggregate_channel_levels()
 }

@@ -7,7 +7,7 @@ use lib.Dec.{eqb}
 use lib.IntN.{pos}
 use lib.Ieee.{Float}
 use lib.Ieee.Exact.{HasValue}
-use Rattle.levels.specs.declared.parts.Parts.TheVariants.{NotANumber as NoParts}
+use Rattle.std.specs.Prelude.{None}
 use Rattle.levels.specs.declared.decibels.Decibels.{Decibels}
 use Rattle.levels.specs.declared.decibels.Decibels.TheVariants.{Finite, PlusInfinity, NotANumber}
 use Rattle.levels.specs.FloatParts.{parts_of}
@@ -17,7 +17,7 @@ use Rattle.levels.proofs.Pattern.{Stands, none_known}
 use Rattle.levels.proofs.Fields.{Signed, signed, special, Small, small, normal}
 use Rattle.levels.proofs.Floats.{level_negative, level_small, level_special, level_normal}
 
-pub at_nan : (p : ℕ) (v : Float) → parts_of v ≡ NoParts → NotANumber ≡ level_of p v
+pub at_nan : (p : ℕ) (v : Float) → parts_of v ≡ None → NotANumber ≡ level_of p v
 unfolding level_of
 at_nan p v e = sym (ap (level_of p) (none_known v e))
 

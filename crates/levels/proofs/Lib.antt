@@ -7,6 +7,7 @@ pub mod Rounded
 pub mod Digits
 pub mod Bounds
 pub mod Sums
+pub mod Places
 pub mod Nearness
 pub mod Floats
 pub mod Cases

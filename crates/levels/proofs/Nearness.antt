@@ -1,14 +1,12 @@
 -- `near` by the difference that the machine holds. Assumes nothing.
 use mathlib.Core.Path.{◌≡◌, refl, sym, ◌∙◌}
-use mathlib.Core.Bool.{Bool, true, false}
+use mathlib.Core.Bool.{Bool, false}
 use Prim.Native.Nat.{ℕ, suc, ◌-◌, ◌^◌, ◌≤◌, ◌<◌, min}
 use native.Mathlib.Omega.{arith}
 use native.Mathlib.Decide.{dec_le}
 use lib.Dec.{leb}
-use lib.IntN.{ℤ, pos, negsuc, neg_ℤ, nat_abs, ◌-ℤ◌}
-use lib.Signed.{lt_z, le_z}
-use borrow.Author.Tests.{ltb-true, le-leb, lt-leb}
-use Rattle.numbers.proofs.Signs.{clash}
+use lib.IntN.{ℤ, pos, negsuc, nat_abs, ◌-ℤ◌}
+use borrow.Author.Tests.{le-leb, lt-leb}
 use Rattle.levels.specs.declared.decibels.Decibels.{Decibels}
 use Rattle.levels.specs.declared.decibels.Decibels.TheVariants.{Finite, PlusInfinity, MinusInfinity, NotANumber}
 use Rattle.levels.specs.Decibels.{held32, held, plus, minus, near_distance, within, near}
@@ -49,12 +47,8 @@ near_is MinusInfinity MinusInfinity = refl
 near_is MinusInfinity NotANumber = refl
 near_is NotANumber b = refl
 
--- ---- one signed number
-
-pub small_below : (x : ℤ) → lt_z x (pos 0) ≡ true → le_z (neg_ℤ (pos near_distance)) x ≡ leb (nat_abs x) near_distance
-small_below (pos n) t = let h = ltb-true n 0 t in absurd (omega arith)
-small_below (negsuc n) t = same_leb n (near_distance - 1) (suc n) near_distance (λ h. omega arith) (λ h. omega arith)
-
-pub small_above : (x : ℤ) → lt_z x (pos 0) ≡ false → le_z x (pos near_distance) ≡ leb (nat_abs x) near_distance
-small_above (pos n) t = refl
-small_above (negsuc n) t = clash t
+pub not_finite : (d : Decibels) → ((x : ℤ) → d ≡ Finite x → ⊥) → near_by d ≡ false
+not_finite (Finite x) n = absurd (n x refl)
+not_finite PlusInfinity n = refl
+not_finite MinusInfinity n = refl
+not_finite NotANumber n = refl

@@ -7,26 +7,29 @@ use borrow.Author.Tests.{leb-true, leb-false, eq-eqb, ne_eqb, lt-ltb, le-ltb}
 use lib.Dec.{T, leb, eqb}
 use lib.Bits.{bit_and, and_mask}
 use lib.Pow.{field}
-use lib.Ieee.{Float, nan, inf, fin, binary32, ne, fits, is_nan, nan_bits, to_bits, of_bits, of_fields}
+use lib.Ieee.{Float, nan, inf, fin, binary32, fits, is_nan, nan_bits, to_bits, of_bits, of_fields}
 use lib.Ieee.Bits.{of_bits-to_bits, to_bits-lt, nan_bits_is, nan_bits_above}
-use lib.Ieee.Compare.{differs_from_itself, nan_differs}
 use Rattle.numbers.proofs.Signs.{clash}
-use Rattle.levels.specs.declared.parts.Parts.TheVariants.{NotANumber, Fields}
+use Rattle.std.specs.Prelude.{None, Some}
+use Rattle.levels.specs.declared.parts.Parts.{Parts}
 use Rattle.levels.specs.FloatParts.{fields_of, parts_of}
 
 -- ---- a not-a-number, as code tests for it
 
-pub is_nan_lem : (x : Float) → ne x x ≡ true → NotANumber ≡ parts_of x
-unfolding parts_of
-is_nan_lem x e = sym (ap parts_of (differs_from_itself x (subst T (sym e) tt)))
-
-pub no_nan : (x : Float) → ne x x ≡ false → is_nan x ≡ false
+pub nan_only : (x : Float) → is_nan x ≡ true → x ≡ nan
 unfolding is_nan
-no_nan nan e = clash (sym nan_differs ∙ e)
-no_nan (inf s) e = refl
-no_nan (fin s m k) e = refl
+nan_only nan e = refl
+nan_only (inf s) e = clash (sym e)
+nan_only (fin s m k) e = clash (sym e)
 
-pub none_known : (x : Float) → parts_of x ≡ NotANumber → x ≡ nan
+none_of_nan : parts_of nan ≡ None
+unfolding parts_of
+none_of_nan = refl
+
+pub is_nan_lem : (x : Float) → is_nan x ≡ true → None ≡ parts_of x
+is_nan_lem x e = sym (ap parts_of (nan_only x e) ∙ none_of_nan)
+
+pub none_known : (x : Float) → parts_of x ≡ None → x ≡ nan
 unfolding parts_of
 none_known nan e = refl
 none_known (inf s) e = let z : ◌≡◌ {A = ℕ} 0 1 = cc in absurd (omega arith)
@@ -34,17 +37,17 @@ none_known (fin s m k) e = let z : ◌≡◌ {A = ℕ} 0 1 = cc in absurd (omega
 
 -- ---- shifts and masks
 
-known : (x : Float) → is_nan x ≡ false → parts_of x ≡ fields_of (to_bits binary32 x)
+known : (x : Float) → is_nan x ≡ false → parts_of x ≡ Some (fields_of (to_bits binary32 x))
 unfolding parts_of is_nan
 known nan n = clash n
 known (inf s) n = refl
 known (fin s m e) n = refl
 
 pub masked : (x : Float) → is_nan x ≡ false
-    → Fields (eqb (to_bits binary32 x / 2 ^ 31) 1) (bit_and (to_bits binary32 x / 2 ^ 23) 255) (bit_and (to_bits binary32 x) 8388607) ≡ parts_of x
+    → Some (record { negative = eqb (to_bits binary32 x / 2 ^ 31) 1; exponent = bit_and (to_bits binary32 x / 2 ^ 23) 255; fraction = bit_and (to_bits binary32 x) 8388607 }) ≡ parts_of x
 masked x n =
     let b = to_bits binary32 x in
-    (λ i. Fields (eqb (b / 2 ^ 31) 1) (and_mask (b / 2 ^ 23) 8 i) (and_mask b 23 i)) ∙ sym (known x n)
+    (λ i. Some (record { negative = eqb (b / 2 ^ 31) 1; exponent = and_mask (b / 2 ^ 23) 8 i; fraction = and_mask b 23 i })) ∙ sym (known x n)
 
 -- ---- the float that the fields stand for
 
@@ -62,12 +65,15 @@ pub record Stands (x : Float) (s : Bool) (e t : ℕ) : Type 0 where
   pub e_lt : e < 256
   pub t_lt : t < 2 ^ 23
 
-read : (x : Float) → T (fits binary32 x) → (s : Bool) (e t : ℕ) → is_nan x ≡ false → fields_of (to_bits binary32 x) ≡ Fields s e t → Stands x s e t
+inside : (p q : Parts) → Some p ≡ Some q → p ≡ q
+inside p q e = cc
+
+read : (x : Float) → T (fits binary32 x) → (s : Bool) (e t : ℕ) → is_nan x ≡ false → fields_of (to_bits binary32 x) ≡ record { negative = s; exponent = e; fraction = t } → Stands x s e t
 read x f s e t n p =
     let b = to_bits binary32 x in
-    let ps : eqb (b / 2 ^ 31) 1 ≡ s = cc in
-    let pe : b / 2 ^ 23 % 2 ^ 8 ≡ e = cc in
-    let pt : b % 2 ^ 23 ≡ t = cc in
+    let ps : eqb (b / 2 ^ 31) 1 ≡ s = ap (λ (q : Parts). q.negative) p in
+    let pe : b / 2 ^ 23 % 2 ^ 8 ≡ e = ap (λ (q : Parts). q.exponent) p in
+    let pt : b % 2 ^ 23 ≡ t = ap (λ (q : Parts). q.fraction) p in
     record {
       is = sym (of_bits-to_bits binary32 x f) ∙ pattern b (to_bits-lt binary32 x f) ∙ (λ i. of_fields binary32 (ps i) (pe i) (pt i));
       number = n;
@@ -75,23 +81,17 @@ read x f s e t n p =
       t_lt = omega arith;
     }
 
-pub stands : (x : Float) → T (fits binary32 x) → (s : Bool) (e t : ℕ) → parts_of x ≡ Fields s e t → Stands x s e t
+pub stands : (x : Float) → T (fits binary32 x) → (s : Bool) (e t : ℕ) → parts_of x ≡ Some (record { negative = s; exponent = e; fraction = t }) → Stands x s e t
 unfolding parts_of is_nan
 stands nan f s e t p = let z : ◌≡◌ {A = ℕ} 0 1 = cc in absurd (omega arith)
-stands (inf r) f s e t p = read (inf r) f s e t refl p
-stands (fin r m k) f s e t p = read (fin r m k) f s e t refl p
+stands (inf r) f s e t p = read (inf r) f s e t refl (inside _ _ p)
+stands (fin r m k) f s e t p = read (fin r m k) f s e t refl (inside _ _ p)
 
 pub own_fields : (x : Float) → T (fits binary32 x) → is_nan x ≡ false
     → Stands x (eqb (to_bits binary32 x / 2 ^ 31) 1) (to_bits binary32 x / 2 ^ 23 % 2 ^ 8) (to_bits binary32 x % 2 ^ 23)
 own_fields x f n = stands x f (eqb (to_bits binary32 x / 2 ^ 31) 1) (to_bits binary32 x / 2 ^ 23 % 2 ^ 8) (to_bits binary32 x % 2 ^ 23) (known x n)
 
 -- ---- patterns of a not-a-number
-
-nan_only : (x : Float) → is_nan x ≡ true → x ≡ nan
-unfolding is_nan
-nan_only nan e = refl
-nan_only (inf s) e = clash (sym e)
-nan_only (fin s m k) e = clash (sym e)
 
 pub nan_pattern : (b : ℕ) → 2139095040 < b % 2 ^ 31 → of_bits binary32 b ≡ nan
 nan_pattern b h = nan_only (of_bits binary32 b) (sym (nan_bits_is binary32 b) ∙ nan_bits_above binary32 b ∙ lt-ltb 2139095040 (b % 2 ^ 31) h)

@@ -13,7 +13,7 @@ use lib.Ieee.Exact.{HasValue, odd_sign}
 use lib.Ieee.Fits.{down_pos}
 use lib.Ieee.Nearest.{div_same}
 use Rattle.numbers.proofs.Signs.{clash}
-use Rattle.levels.specs.declared.parts.Parts.TheVariants.{NotANumber}
+use Rattle.std.specs.Prelude.{None}
 use Rattle.levels.specs.FloatParts.{parts_of}
 use Rattle.numbers.specs.Sign.{signed}
 use Rattle.levels.specs.Rounding.{half_up, round_of, significand, whole_part}
@@ -78,6 +78,6 @@ at_infinite x s e t f q =
     let is = f.is ∙ ap (λ (k : ℕ). of_fields binary32 s k t) q in
     ap round_of is ∙ infinite s (eqb t 0) (sym (ap is_nan is) ∙ f.number)
 
-pub at_nan : (x : Float) → parts_of x ≡ NotANumber → round_of x ≡ pos 0
+pub at_nan : (x : Float) → parts_of x ≡ None → round_of x ≡ pos 0
 unfolding round_of
 at_nan x e = ap round_of (none_known x e)

@@ -1,33 +1,15 @@
 -- Sums of levels: what is held to the range of an i32, and that bounded sums are whole. Assumes nothing.
 use mathlib.Core.Path.{◌≡◌, refl, sym, ap, subst, ◌∙◌}
-use mathlib.Core.Bool.{Bool, true, false}
-use Prim.Native.Nat.{ℕ, ◌+◌, ◌-◌, ◌^◌, ◌≤◌, ◌<◌, min}
+use Prim.Native.Nat.{ℕ, ◌+◌, ◌-◌, ◌^◌, ◌<◌, min}
 use native.Mathlib.Omega.{arith}
-use lib.IntN.{ℤ, pos, negsuc, nat_abs, ◌+ℤ◌}
-use lib.Signed.{mag, lt_z}
-use borrow.Author.Tests.{ltb-true, ltb-false}
-use mir.Syntax.{w64}
-use mir.Val.{SFits}
-use Rattle.numbers.proofs.Signs.{clash, sum_abs, neg_abs, mag_abs, abs_mag, read, read64, again64, widened}
+use lib.IntN.{ℤ, pos, negsuc}
+use lib.Signed.{mag}
+use Rattle.numbers.proofs.Signs.{sum_abs, neg_abs, mag_abs}
 use Rattle.levels.specs.declared.decibels.Decibels.{Decibels}
 use Rattle.levels.specs.declared.decibels.Decibels.TheVariants.{Finite, PlusInfinity, MinusInfinity, NotANumber}
-use Rattle.levels.specs.Decibels.{held32, held, infinity, plus, negated, minus, Bounded, Combined}
+use Rattle.levels.specs.Decibels.{held32, held, plus, negated, minus, Bounded, Combined}
 
 -- ---- held to the range of an i32, by the tests
-
-pub held_low : (z : ℤ) → lt_z z (negsuc 2147483647) ≡ true → negsuc 2147483647 ≡ held32 z
-unfolding held32
-held_low (pos n) t = clash (sym t)
-held_low (negsuc n) t = let h = ltb-true 2147483647 n t in let e : 2147483647 ≡ min n (2 ^ 31 - 1) = omega arith in ap negsuc e
-
-pub held_high : (z : ℤ) → lt_z (pos 2147483647) z ≡ true → pos 2147483647 ≡ held32 z
-unfolding held32
-held_high (pos n) t = let h = ltb-true 2147483647 n t in let e : 2147483647 ≡ min n (2 ^ 31 - 1) = omega arith in ap pos e
-held_high (negsuc n) t = clash (sym t)
-
-pub in_range : (z : ℤ) → lt_z z (negsuc 2147483647) ≡ false → lt_z (pos 2147483647) z ≡ false → mag z < 2 ^ 31
-in_range (pos n) s t = omega (arith, ltb-false 2147483647 n t)
-in_range (negsuc n) s t = omega (arith, ltb-false 2147483647 n s)
 
 pub held_same : (z : ℤ) → mag z < 2 ^ 31 → held32 z ≡ z
 unfolding held32
@@ -35,28 +17,6 @@ held_same (pos n) h = let e : min n (2 ^ 31 - 1) ≡ n = omega arith in ap pos e
 held_same (negsuc n) h = let e : min n (2 ^ 31 - 1) ≡ n = omega arith in ap negsuc e
 
 -- ---- bounded sums
-
-pub held_infinity : (a : Decibels) (s : Bool) → held (plus a (infinity s)) ≡ plus a (infinity s)
-unfolding held plus
-held_infinity (Finite x) true = refl
-held_infinity (Finite x) false = refl
-held_infinity PlusInfinity true = refl
-held_infinity PlusInfinity false = refl
-held_infinity MinusInfinity true = refl
-held_infinity MinusInfinity false = refl
-held_infinity NotANumber s = refl
-
-pub finite_infinity : (x : ℤ) (s : Bool) → plus (Finite x) (infinity s) ≡ infinity s
-unfolding plus
-finite_infinity x true = refl
-finite_infinity x false = refl
-
-pub plus_nan : (a : Decibels) → plus a NotANumber ≡ NotANumber
-unfolding plus
-plus_nan (Finite x) = refl
-plus_nan PlusInfinity = refl
-plus_nan MinusInfinity = refl
-plus_nan NotANumber = refl
 
 pub sum_bounded : (j k : ℕ) (a b : Decibels) → Bounded j a → Bounded k b → Bounded (j + k) (plus a b)
 unfolding Bounded plus
@@ -109,17 +69,32 @@ subtracted a b r e =
       bounded = λ j k p q h. s.bounded j k p (negated_bounded k b q) h;
     }
 
--- ---- as the machine computes them, in an i64
+-- ---- what the other lines of the tables leave is not a number
 
-module _ (x y : ℤ) (hx : mag x < 2 ^ 31) (hy : nat_abs y ≤ 2 ^ 31) where
-  small_sum : mag (x +ℤ y) < 2 ^ 63
-  small_sum = omega (arith, mag_abs (x +ℤ y), sum_abs x y, abs_mag x)
+pub no_sum_above : (b : Decibels) → ((x : ℤ) → b ≡ Finite x → ⊥) → (b ≡ PlusInfinity → ⊥) → held (plus PlusInfinity b) ≡ NotANumber
+unfolding held plus
+no_sum_above (Finite x) n k = absurd (n x refl)
+no_sum_above PlusInfinity n k = absurd (k refl)
+no_sum_above MinusInfinity n k = refl
+no_sum_above NotANumber n k = refl
 
-  inner : read64 (read x) +ℤ read64 y ≡ x +ℤ y
-  inner = (λ i. widened x hx i +ℤ again64 y (omega (arith, mag_abs y)) i)
+pub no_sum_below : (b : Decibels) → ((x : ℤ) → b ≡ Finite x → ⊥) → (b ≡ MinusInfinity → ⊥) → held (plus MinusInfinity b) ≡ NotANumber
+unfolding held plus
+no_sum_below (Finite x) n k = absurd (n x refl)
+no_sum_below PlusInfinity n k = refl
+no_sum_below MinusInfinity n k = absurd (k refl)
+no_sum_below NotANumber n k = refl
 
-  pub sum_fits : SFits w64 (read64 (read x) +ℤ read64 y)
-  sum_fits = subst (SFits w64) (sym inner) (record { sfits = small_sum })
+pub no_difference_above : (b : Decibels) → ((x : ℤ) → b ≡ Finite x → ⊥) → (b ≡ MinusInfinity → ⊥) → held (plus PlusInfinity (negated b)) ≡ NotANumber
+unfolding held plus
+no_difference_above (Finite x) n k = absurd (n x refl)
+no_difference_above PlusInfinity n k = refl
+no_difference_above MinusInfinity n k = absurd (k refl)
+no_difference_above NotANumber n k = refl
 
-  pub sum_read : read64 (read64 (read x) +ℤ read64 y) ≡ x +ℤ y
-  sum_read = ap read64 inner ∙ again64 (x +ℤ y) small_sum
+pub no_difference_below : (b : Decibels) → ((x : ℤ) → b ≡ Finite x → ⊥) → (b ≡ PlusInfinity → ⊥) → held (plus MinusInfinity (negated b)) ≡ NotANumber
+unfolding held plus
+no_difference_below (Finite x) n k = absurd (n x refl)
+no_difference_below PlusInfinity n k = absurd (k refl)
+no_difference_below MinusInfinity n k = refl
+no_difference_below NotANumber n k = refl

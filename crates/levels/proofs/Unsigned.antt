@@ -6,11 +6,11 @@ use native.Mathlib.Omega.{arith}
 use lib.Dec.{T, eqb}
 use lib.Ieee.{Float, nan, inf, fin, binary32, is_nan, nan_bits, of_bits, of_fields, odd}
 use lib.Ieee.Bits.{nan_bits_is}
-use Rattle.levels.specs.declared.parts.Parts.TheVariants.{NotANumber}
+use Rattle.std.specs.Prelude.{None}
 use Rattle.levels.specs.FloatParts.{parts_of, magnitude_of}
 use Rattle.levels.proofs.Pattern.{Stands, none_known, pattern}
 
-pub of_nan : (x : Float) → parts_of x ≡ NotANumber → x ≡ magnitude_of x
+pub of_nan : (x : Float) → parts_of x ≡ None → x ≡ magnitude_of x
 unfolding magnitude_of
 of_nan x e = let n = none_known x e in n ∙ sym (ap magnitude_of n)
 

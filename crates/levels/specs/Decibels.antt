@@ -1,14 +1,14 @@
 -- Document 01, "Levels": "A level is a signed whole number of thousandths of a dB"; "Plus infinity and not-a-number are their own d and h, and follow IEEE 754
 -- in sums and comparisons." Definitions only.
-use Rattle.std.specs.Prelude.{ℕ, ◌+◌, ◌-◌, ◌^◌, ◌≤◌, ◌<◌, min, ◌≡◌, Bool, true, false, leb, ℤ, pos, negsuc, neg_ℤ, nat_abs, ◌+ℤ◌, ◌-ℤ◌}
+use Rattle.std.specs.Prelude.{ℕ, ◌+◌, ◌^◌, ◌≤◌, ◌<◌, ◌≡◌, Bool, true, false, cond, Option, None, Some, List, codes, leb, ℤ, neg_ℤ, nat_abs, ◌+ℤ◌, ◌-ℤ◌}
+use Rattle.std.specs.Fmt.{signed_decimal}
+use Rattle.std.specs.Int.{w32, saturate_signed}
 use Rattle.std.specs.Int.Signed.{lt_z, le_z}
+use Rattle.std.specs.declared.cmp.Ordering.{Ordering}
+use Rattle.std.specs.declared.cmp.Ordering.TheVariants.{Less, Equal, Greater}
+use Rattle.std.specs.Ordering.{is_eq, is_some_and}
 use Rattle.levels.specs.declared.decibels.Decibels.{Decibels}
 use Rattle.levels.specs.declared.decibels.Decibels.TheVariants.{Finite, PlusInfinity, MinusInfinity, NotANumber}
-
--- minus or plus infinity
-abbrev pub infinity : Bool → Decibels
-infinity true = MinusInfinity
-infinity false = PlusInfinity
 
 -- ---- sums
 
@@ -66,6 +66,16 @@ at_most PlusInfinity MinusInfinity = false
 at_most PlusInfinity NotANumber = false
 at_most NotANumber b = false
 
+-- where a stands to b; nowhere where a not-a-number stands
+unfoldable pub compared : Decibels → Decibels → Option Ordering
+unfolding less at_most
+compared a b = cond (less a b) (Some Less) (cond (less b a) (Some Greater) (cond (at_most a b) (Some Equal) None))
+
+-- neither is above the other; a not-a-number is not even equal to itself
+unfoldable pub equal : Decibels → Decibels → Bool
+unfolding compared
+equal a b = is_some_and is_eq (compared a b)
+
 -- ---- near, document 01's word: "sides 10 apart or less"; "infinite, not-a-number or missing sides are never near". Document 02 (x): "the near distance falls from
 -- 10 to 6 everywhere"
 
@@ -85,12 +95,20 @@ within k NotANumber b = false
 abbrev pub near : Decibels → Decibels → Bool
 near a b = within near_distance a b
 
+-- ---- as text
+
+-- a finite one is the number of its thousandths
+abbrev pub text_of : Decibels → List ℕ
+text_of (Finite x) = signed_decimal x
+text_of PlusInfinity = codes "inf"
+text_of MinusInfinity = codes "-inf"
+text_of NotANumber = codes "nan"
+
 -- ---- what the machine holds
 
 -- a whole number, held to the range of an i32
 unfoldable pub held32 : ℤ → ℤ
-held32 (pos n) = pos (min n (2 ^ 31 - 1))
-held32 (negsuc n) = negsuc (min n (2 ^ 31 - 1))
+held32 z = saturate_signed w32 z
 
 unfoldable pub held : Decibels → Decibels
 unfolding held32

@@ -1,4 +1,4 @@
-// A float's bit pattern and the float of a pattern, for every pattern.
+// A float's bit pattern and the float of a pattern, for every pattern. They stay beside std's, which ask for a number.
 ghost use Rattle.std.specs.Prelude.{◌≡◌};
 ghost use Rattle.std.specs.Float.{binary32};
 ghost use Rattle.std.specs.Float.Ieee.{of_bits, to_bits};
@@ -8,7 +8,7 @@ pub fn from_bits(bits: u32) -> f32
     ensures { result ≡ of_bits binary32 bits }
 {
     if bits % 0x8000_0000 > 0x7f80_0000 {
-        return 0.0 / 0.0;
+        return f32::NAN;
     }
     f32::from_bits(bits)
 }
@@ -17,8 +17,8 @@ pub fn from_bits(bits: u32) -> f32
 pub fn to_bits(x: f32) -> u32
     ensures { result ≡ to_bits binary32 x }
 {
-    if x != x {
+    if x.is_nan() {
         return 0x7fc0_0000;
     }
-    f32::to_bits(x)
+    x.to_bits()
 }

@@ -1,9 +1,13 @@
 // Sums and comparisons of levels, in whole thousandths of a dB, with IEEE 754's infinities and not-a-number.
-ghost use Rattle.std.specs.Prelude.{◌≡◌, ◌≤◌, ◌^◌, leb, nat_abs};
-ghost use Rattle.levels.specs.Decibels.{held32, held, infinity, plus, minus, less, at_most, near_distance, within, near, Combined};
-ghost use Rattle.levels.specs.declared.decibels.Decibels.TheVariants.{Finite};
+ghost use Rattle.std.specs.Prelude.{◌≡◌, Some};
+ghost use Rattle.levels.specs.Decibels.{plus, minus, compared, equal, text_of, near, Combined};
+ghost use Rattle.levels.specs.Order.{equal_laws, order_laws};
 
-// A level, or a sum or difference of levels.
+use std::cmp::Ordering;
+use std::fmt;
+use std::ops::{Add, Sub};
+
+// A level, or a sum or difference of levels. No Option or Result of a number: the infinities and the not-a-number are levels too, and add as IEEE 754 says.
 #[derive(Clone, Copy)]
 pub enum Decibels {
     Finite(i32),
@@ -13,147 +17,83 @@ pub enum Decibels {
 }
 
 // How far apart two finite sides may lie and still be near, in thousandths.
-pub const NEAR_DISTANCE: i32 = 6;
+pub const NEAR_DISTANCE: u32 = 6;
 
-// A sum of two i32, held to the range of one.
-fn hold(sum: i64) -> i32
-    ensures { result ≡ held32 sum }
-{
-    if sum < -2147483648 {
-        return -2147483648;
-    }
-    if sum > 2147483647 {
-        return 2147483647;
-    }
-    sum as i32
-}
+// Held to the range of an i32, which no sum of levels reaches: the contract says what bounds it.
+impl Add for Decibels {
+    type Output = Decibels;
 
-fn plus_finite(a: Decibels, y: i64) -> Decibels
-    requires { nat_abs y ≤ 2 ^ 31 }
-    ensures { result ≡ held (plus a (Finite y)) }
-{
-    match a {
-        Decibels::Finite(x) => Decibels::Finite(hold((x as i64) + y)),
-        Decibels::PlusInfinity => Decibels::PlusInfinity,
-        Decibels::MinusInfinity => Decibels::MinusInfinity,
-        Decibels::NotANumber => Decibels::NotANumber,
-    }
-}
+    ghost add_gives = { λ a b r. Combined a b (plus a b) r };
 
-fn plus_infinity(a: Decibels, negative: bool) -> Decibels
-    ensures { result ≡ plus a (infinity negative) }
-{
-    match a {
-        Decibels::Finite(_) => signed_infinity(negative),
-        Decibels::PlusInfinity => {
-            if negative {
-                Decibels::NotANumber
-            } else {
-                Decibels::PlusInfinity
-            }
+    fn add(self, b: Decibels) -> Decibels {
+        match (self, b) {
+            (Decibels::Finite(x), Decibels::Finite(y)) => Decibels::Finite(x.saturating_add(y)),
+            (Decibels::PlusInfinity, Decibels::Finite(_) | Decibels::PlusInfinity)
+            | (Decibels::Finite(_), Decibels::PlusInfinity) => Decibels::PlusInfinity,
+            (Decibels::MinusInfinity, Decibels::Finite(_) | Decibels::MinusInfinity)
+            | (Decibels::Finite(_), Decibels::MinusInfinity) => Decibels::MinusInfinity,
+            _ => Decibels::NotANumber,
         }
-        Decibels::MinusInfinity => {
-            if negative {
-                Decibels::MinusInfinity
-            } else {
-                Decibels::NotANumber
-            }
+    }
+}
+
+// Held as a sum is.
+impl Sub for Decibels {
+    type Output = Decibels;
+
+    ghost sub_gives = { λ a b r. Combined a b (minus a b) r };
+
+    fn sub(self, b: Decibels) -> Decibels {
+        match (self, b) {
+            (Decibels::Finite(x), Decibels::Finite(y)) => Decibels::Finite(x.saturating_sub(y)),
+            (Decibels::PlusInfinity, Decibels::Finite(_) | Decibels::MinusInfinity)
+            | (Decibels::Finite(_), Decibels::MinusInfinity) => Decibels::PlusInfinity,
+            (Decibels::MinusInfinity, Decibels::Finite(_) | Decibels::PlusInfinity)
+            | (Decibels::Finite(_), Decibels::PlusInfinity) => Decibels::MinusInfinity,
+            _ => Decibels::NotANumber,
         }
-        Decibels::NotANumber => Decibels::NotANumber,
     }
 }
 
-fn signed_infinity(negative: bool) -> Decibels
-    ensures { result ≡ infinity negative }
-{
-    if negative {
-        Decibels::MinusInfinity
-    } else {
-        Decibels::PlusInfinity
+impl PartialEq for Decibels {
+    ghost eq = { equal };
+
+    ghost laws = { equal_laws };
+
+    #[tactic(auto, unfolding(crate::specs::Decibels::equal))]
+    fn eq(&self, b: &Decibels) -> bool {
+        self.partial_cmp(b) == Some(Ordering::Equal)
     }
 }
 
-// a + b. Held to the range of an i32, which no sum of levels reaches: the contract says what bounds it.
-pub fn sum(a: Decibels, b: Decibels) -> Decibels
-    ensures { Combined a b (plus a b) result }
-{
-    match b {
-        Decibels::Finite(y) => plus_finite(a, y as i64),
-        Decibels::PlusInfinity => plus_infinity(a, false),
-        Decibels::MinusInfinity => plus_infinity(a, true),
-        Decibels::NotANumber => Decibels::NotANumber,
+impl PartialOrd for Decibels {
+    ghost partial_cmp = { compared };
+
+    ghost laws = { order_laws };
+
+    #[tactic(auto, using(crate::proofs::Places::above_itself, crate::proofs::Places::below_itself, crate::proofs::Places::before_nan), unfolding(crate::specs::Decibels::compared))]
+    fn partial_cmp(&self, b: &Decibels) -> Option<Ordering> {
+        match (*self, *b) {
+            (Decibels::NotANumber, _) | (_, Decibels::NotANumber) => None,
+            (Decibels::Finite(x), Decibels::Finite(y)) => Some(x.cmp(&y)),
+            (Decibels::PlusInfinity, Decibels::PlusInfinity)
+            | (Decibels::MinusInfinity, Decibels::MinusInfinity) => Some(Ordering::Equal),
+            (Decibels::MinusInfinity, _) | (_, Decibels::PlusInfinity) => Some(Ordering::Less),
+            (Decibels::PlusInfinity, _) | (_, Decibels::MinusInfinity) => Some(Ordering::Greater),
+        }
     }
 }
 
-// a - b, held as a sum is.
-pub fn difference(a: Decibels, b: Decibels) -> Decibels
-    ensures { Combined a b (minus a b) result }
-{
-    match b {
-        Decibels::Finite(y) => plus_finite(a, 0 - (y as i64)),
-        Decibels::PlusInfinity => plus_infinity(a, true),
-        Decibels::MinusInfinity => plus_infinity(a, false),
-        Decibels::NotANumber => Decibels::NotANumber,
-    }
-}
+impl fmt::Display for Decibels {
+    ghost output = { λ level. Some (text_of level) };
 
-// a < b
-pub fn less_than(a: Decibels, b: Decibels) -> bool
-    ensures { result ≡ less a b }
-{
-    match a {
-        Decibels::Finite(x) => match b {
-            Decibels::Finite(y) => x < y,
-            Decibels::PlusInfinity => true,
-            Decibels::MinusInfinity => false,
-            Decibels::NotANumber => false,
-        },
-        Decibels::MinusInfinity => match b {
-            Decibels::Finite(_) => true,
-            Decibels::PlusInfinity => true,
-            Decibels::MinusInfinity => false,
-            Decibels::NotANumber => false,
-        },
-        Decibels::PlusInfinity => false,
-        Decibels::NotANumber => false,
-    }
-}
-
-// a ≤ b
-pub fn at_most(a: Decibels, b: Decibels) -> bool
-    ensures { result ≡ at_most a b }
-{
-    match a {
-        Decibels::Finite(x) => match b {
-            Decibels::Finite(y) => x <= y,
-            Decibels::PlusInfinity => true,
-            Decibels::MinusInfinity => false,
-            Decibels::NotANumber => false,
-        },
-        Decibels::MinusInfinity => match b {
-            Decibels::Finite(_) => true,
-            Decibels::PlusInfinity => true,
-            Decibels::MinusInfinity => true,
-            Decibels::NotANumber => false,
-        },
-        Decibels::PlusInfinity => match b {
-            Decibels::Finite(_) => false,
-            Decibels::PlusInfinity => true,
-            Decibels::MinusInfinity => false,
-            Decibels::NotANumber => false,
-        },
-        Decibels::NotANumber => false,
-    }
-}
-
-// A difference of at most NEAR_DISTANCE, either way.
-fn small(x: i32) -> bool
-    ensures { result ≡ leb (nat_abs x) near_distance }
-{
-    if x < 0 {
-        -NEAR_DISTANCE <= x
-    } else {
-        x <= NEAR_DISTANCE
+    fn fmt<W: fmt::Write>(&self, f: &mut fmt::Formatter<W>) -> fmt::Result {
+        match *self {
+            Decibels::Finite(x) => write!(f, "{x}"),
+            Decibels::PlusInfinity => f.write_str("inf"),
+            Decibels::MinusInfinity => f.write_str("-inf"),
+            Decibels::NotANumber => f.write_str("nan"),
+        }
     }
 }
 
@@ -161,11 +101,8 @@ fn small(x: i32) -> bool
 pub fn are_near(a: Decibels, b: Decibels) -> bool
     ensures { result ≡ near a b }
 {
-    let apart = difference(a, b);
-    match apart {
-        Decibels::Finite(x) => small(x),
-        Decibels::PlusInfinity => false,
-        Decibels::MinusInfinity => false,
-        Decibels::NotANumber => false,
+    match a - b {
+        Decibels::Finite(x) => x.unsigned_abs() <= NEAR_DISTANCE,
+        _ => false,
     }
 }

@@ -3,7 +3,7 @@ ghost use Rattle.std.specs.Prelude.{◌≡◌, false, ◌+◌, ◌-◌, ◌*◌,
 ghost use Rattle.levels.specs.Level.{digits, decimal, level_of, d, h, dbfs, Leveled};
 
 use crate::decibels::Decibels;
-use crate::parts::Parts;
+use crate::parts::{Parts, take_apart};
 
 // The level of 1 against full scale, in thousandths of a dB.
 pub const MIN_LEVEL_DBFS: i32 = -90310;
@@ -13,6 +13,7 @@ fn logarithm(start: u64) -> u64
     requires { (2 ^ 31 ≤ start) × (start < 2 ^ 32) }
     ensures { result ≡ digits 13 start }
 {
+    // A fold would carry the pair of x and `found`, and be no plainer.
     let mut x = start;
     let mut found: u64 = 0;
     for _ in 0..13u32 {
@@ -29,23 +30,24 @@ fn from_one(power: u64, exponent: u32, fraction: u32) -> u64
     requires { (power ≤ 20000) × (127 ≤ exponent) × (exponent < 255) × (fraction < 2 ^ 23) }
     ensures { result ≡ decimal power ((exponent - 127) * 2 ^ 13 + digits 13 ((fraction + 2 ^ 23) * 2 ^ 8)) }
 {
-    let whole = (exponent - 127) as u64;
-    let start = ((fraction + 0x80_0000) as u64) << 8;
+    let whole = u64::from(exponent - 127);
+    let start = u64::from(fraction + 0x80_0000) << 8;
     let binary = whole * 8192 + logarithm(start);
     (power * binary * 643 + 17498111) / 17498112
 }
 
-// The decimal logarithm of v to a power, for v above 1; 0 at 1 or below.
+// The decimal logarithm of v to a power, for v above 1; 0 at 1 or below. From the parts: document 01's form.
 fn level(power: u64, v: f32) -> Decibels
     requires { power ≤ 20000 }
     ensures { Leveled (level_of power v) result }
 {
-    let parts = crate::parts::take_apart(v);
-    let Parts::Fields {
-        negative,
-        exponent,
-        fraction,
-    } = parts
+    let Some(
+        Parts {
+            negative,
+            exponent,
+            fraction,
+        },
+    ) = take_apart(v)
     else {
         return Decibels::NotANumber;
     };
@@ -58,10 +60,11 @@ fn level(power: u64, v: f32) -> Decibels
     if exponent == 255 {
         return Decibels::PlusInfinity;
     }
+    // A cast, since it is proved to fit: `try_from` would have an arm that never runs.
     Decibels::Finite(from_one(power, exponent, fraction) as i32)
 }
 
-// d of a peak.
+// d of a peak. It and h are two names of one function: the power says which, and claims speak of both.
 pub fn peak_level(v: f32) -> Decibels
     ensures { Leveled (d v) result }
 {
@@ -79,5 +82,5 @@ pub fn mean_square_level(a: f32) -> Decibels
 pub fn float_s16_to_dbfs(v: f32) -> Decibels
     ensures { result ≡ dbfs v }
 {
-    crate::decibels::sum(peak_level(v), Decibels::Finite(MIN_LEVEL_DBFS))
+    peak_level(v) + Decibels::Finite(MIN_LEVEL_DBFS)
 }

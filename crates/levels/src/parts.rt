@@ -2,41 +2,40 @@
 ghost use Rattle.std.specs.Prelude.{◌≡◌};
 ghost use Rattle.levels.specs.FloatParts.{parts_of, magnitude_of, magnitude_bits_of};
 
-// The sign bit, the eight exponent bits and the 23 fraction bits. A not-a-number has none that are known.
+// The sign bit, the eight exponent bits and the 23 fraction bits.
 #[derive(Clone, Copy)]
-pub enum Parts {
-    NotANumber,
-    Fields {
-        negative: bool,
-        exponent: u32,
-        fraction: u32,
-    },
+pub struct Parts {
+    pub negative: bool,
+    pub exponent: u32,
+    pub fraction: u32,
 }
 
-pub fn take_apart(x: f32) -> Parts
+// A not-a-number has none that are known.
+pub fn take_apart(x: f32) -> Option<Parts>
     ensures { result ≡ parts_of x }
 {
-    if x != x {
-        return Parts::NotANumber;
+    if x.is_nan() {
+        return None;
     }
-    let bits: u32 = f32::to_bits(x);
-    Parts::Fields {
+    let bits = x.to_bits();
+    Some(Parts {
         negative: (bits >> 31) == 1,
         exponent: (bits >> 23) & 0xff,
         fraction: bits & 0x7f_ffff,
-    }
+    })
 }
 
-// x without its sign.
+// x without its sign, from its parts and not by std's `abs`: document 01's form.
 pub fn magnitude(x: f32) -> f32
     ensures { result ≡ magnitude_of x }
 {
-    let parts = take_apart(x);
-    let Parts::Fields {
-        negative: _,
-        exponent,
-        fraction,
-    } = parts
+    let Some(
+        Parts {
+            exponent,
+            fraction,
+            ..
+        },
+    ) = take_apart(x)
     else {
         return x;
     };
@@ -48,9 +47,8 @@ pub fn magnitude(x: f32) -> f32
 pub fn magnitude_bits(x: f32) -> u32
     ensures { result ≡ magnitude_bits_of x }
 {
-    if x != x {
+    if x.is_nan() {
         return 0;
     }
-    let bits: u32 = f32::to_bits(x);
-    bits & 0x7fff_ffff
+    x.to_bits() & 0x7fff_ffff
 }

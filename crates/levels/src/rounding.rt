@@ -2,7 +2,7 @@
 ghost use Rattle.std.specs.Prelude.{◌≡◌, ◌<◌, ◌^◌};
 ghost use Rattle.levels.specs.Rounding.{whole_part, round_of};
 
-use crate::parts::Parts;
+use crate::parts::{Parts, take_apart};
 
 // The magnitude of a finite float's fields, to the nearest whole number, halves up; at most 2^31.
 fn whole_part(exponent: u32, fraction: u32) -> u32
@@ -24,15 +24,17 @@ fn whole_part(exponent: u32, fraction: u32) -> u32
 }
 
 // To the nearest whole number, halves away from zero, held to the range of an i32; 0 for a not-a-number.
+// From the parts and not by std's `round`: document 01's form.
 pub fn round(x: f32) -> i32
     ensures { result ≡ round_of x }
 {
-    let parts = crate::parts::take_apart(x);
-    let Parts::Fields {
-        negative,
-        exponent,
-        fraction,
-    } = parts
+    let Some(
+        Parts {
+            negative,
+            exponent,
+            fraction,
+        },
+    ) = take_apart(x)
     else {
         return 0;
     };

@@ -6,9 +6,8 @@ use native.Mathlib.Omega.{arith}
 use lib.Dec.{eqb, ltb}
 use lib.IntN.{ℤ}
 use lib.Ieee.{Float}
+use Rattle.std.specs.Prelude.{None, Option, Some}
 use Rattle.gain_map.specs.VolumeUpdate.{walk}
-use Rattle.mono_input_volume_controller.specs.declared.speech_level.RmsError.{RmsError}
-use Rattle.mono_input_volume_controller.specs.declared.speech_level.RmsError.TheVariants.{NoError, Db}
 use Rattle.mono_input_volume_controller.specs.declared.mono.MonoInputVolumeController.{MonoInputVolumeController}
 use Rattle.mono_input_volume_controller.specs.MonoState.{max_input_volume, flags, counts}
 use Rattle.mono_input_volume_controller.specs.Mono.{volume_quantization_slack, is_users, unless_same, unless_users, unless_muted, with_input_volume}
@@ -51,21 +50,21 @@ unless_zero_lem : (t : Bool) (e : ℤ) (m : MonoInputVolumeController) → Passe
 unless_zero_lem true e m = stays m.ceiling m.last m.volume
 unless_zero_lem false e m = set_passed (walk e m.last m.least max_input_volume) m
 
-correct_passed : (e : RmsError) (m : MonoInputVolumeController) → PassedOf m (corrected e m)
+correct_passed : (e : Option ℤ) (m : MonoInputVolumeController) → PassedOf m (corrected e m)
 unfolding corrected updated_input_volume
-correct_passed NoError m = stays m.ceiling m.last m.volume
-correct_passed (Db z) m = unless_zero_lem (is_zero (held_error z)) (held_error z) m
+correct_passed None m = stays m.ceiling m.last m.volume
+correct_passed (Some z) m = unless_zero_lem (is_zero (held_error z)) (held_error z) m
 
-wait_passed : (t : Bool) (e : RmsError) (m : MonoInputVolumeController) → PassedOf m (waited t e m)
+wait_passed : (t : Bool) (e : Option ℤ) (m : MonoInputVolumeController) → PassedOf m (waited t e m)
 unfolding waited
 wait_passed true e m = correct_passed e m
 wait_passed false e m = stays m.ceiling m.last m.volume
 
-unless_waited_lem : (t : Bool) (e : RmsError) (s : ℕ) (m : MonoInputVolumeController) → PassedOf m (unless_waited t e s m)
+unless_waited_lem : (t : Bool) (e : Option ℤ) (s : ℕ) (m : MonoInputVolumeController) → PassedOf m (unless_waited t e s m)
 unless_waited_lem true e s m = stays m.ceiling m.last m.volume
 unless_waited_lem false e s m = wait_passed (may_act s m) e (counts 0 0 m.first m)
 
-count_passed : (e : RmsError) (s : ℕ) (m : MonoInputVolumeController) → PassedOf m (counted e s m)
+count_passed : (e : Option ℤ) (s : ℕ) (m : MonoInputVolumeController) → PassedOf m (counted e s m)
 unfolding counted
 count_passed e s m = unless_waited_lem (ltb (m.frames + 1) m.wait) e s m
 
@@ -79,7 +78,7 @@ unfolding checked_volume_and_reset
 if_check_lem true m n p = unless_stays_muted_lem (stays_muted m.startup m.volume) (max m.volume m.least) (flags m.used false m.startup m) n p
 if_check_lem false m n p = p
 
-pub process_passed : (e : RmsError) (p : Float) (m : MonoInputVolumeController) → PassedOf m (processed e p m)
+pub process_passed : (e : Option ℤ) (p : Float) (m : MonoInputVolumeController) → PassedOf m (processed e p m)
 unfolding processed settled
 process_passed e p m =
     let s = if_check m.check m in

@@ -1,11 +1,11 @@
 -- When two steps of a clipping leave a channel in the same state: exactly if they leave its volumes the same; and then so does every step between them. Assumes nothing.
 use mathlib.Core.Path.{◌≡◌, refl, sym, ap, ap₂, ◌∙◌}
 use mathlib.Core.Logic.{◌↔◌}
-use mathlib.Core.Bool.{Bool, true, false, ◌&&◌, not}
+use mathlib.Core.Bool.{Bool, true, false, ◌&&◌}
 use Prim.Native.Nat.{ℕ, ◌-◌, ◌≤◌, min, max}
 use native.Mathlib.Omega.{arith}
 use lib.Dec.{leb, eqb}
-use borrow.Author.Tests.{eqb-true, eq-eqb, ne_eqb}
+use borrow.Author.Tests.{eqb-true, eq-eqb}
 use Rattle.mono_input_volume_controller.specs.declared.mono.MonoInputVolumeController.{MonoInputVolumeController}
 use Rattle.mono_input_volume_controller.specs.MonoState.{volumes, counts}
 use Rattle.mono_input_volume_controller.specs.Mono.{is_users, unless_same, unless_users, unless_muted, with_input_volume, lowered, lower_ceiling, unless_at_floor, handled_clipping}
@@ -149,18 +149,3 @@ module _ (m : MonoInputVolumeController) where
   -- THE TEST
   pub volumes_decide : (s u : ℕ) → (same_volumes (handled_clipping s m) (handled_clipping u m) ≡ true) ↔ (handled_clipping s m ≡ handled_clipping u m)
   volumes_decide s u = (same_state s u, same_volumes_lem (handled_clipping s m) (handled_clipping u m))
-
--- ---- the tests one after another
-
-module _ (a b : MonoInputVolumeController) where
-  pub other_ceiling : (a.ceiling ≡ b.ceiling → ⊥) → true ≡ not (same_volumes a b)
-  unfolding same_volumes
-  other_ceiling e = rw (ne_eqb a.ceiling b.ceiling e)
-
-  pub other_last : a.ceiling ≡ b.ceiling → (a.last ≡ b.last → ⊥) → true ≡ not (same_volumes a b)
-  unfolding same_volumes
-  other_last p e = rw (eq-eqb a.ceiling b.ceiling p, ne_eqb a.last b.last e)
-
-  pub other_volume : a.ceiling ≡ b.ceiling → a.last ≡ b.last → not (eqb a.volume b.volume) ≡ not (same_volumes a b)
-  unfolding same_volumes
-  other_volume p q = rw (eq-eqb a.ceiling b.ceiling p, eq-eqb a.last b.last q)

@@ -7,9 +7,8 @@ use lib.Dec.{ltb, leb, eqb}
 use lib.IntN.{ℤ}
 use lib.Ieee.{Float, le}
 use borrow.Author.Tests.{ltb-true}
+use Rattle.std.specs.Prelude.{None, Option, Some}
 use Rattle.gain_map.specs.VolumeUpdate.{walk}
-use Rattle.mono_input_volume_controller.specs.declared.speech_level.RmsError.{RmsError}
-use Rattle.mono_input_volume_controller.specs.declared.speech_level.RmsError.TheVariants.{NoError, Db}
 use Rattle.mono_input_volume_controller.specs.declared.mono.MonoInputVolumeController.{MonoInputVolumeController}
 use Rattle.mono_input_volume_controller.specs.MonoState.{max_input_volume, Good, Becomes, counts, flags}
 use Rattle.mono_input_volume_controller.specs.Mono.{handled_capture_output_used_change, is_users, taken_from_user, unless_same, unless_users, unless_muted, with_input_volume, lowered, lower_ceiling, unless_at_floor, handled_clipping}
@@ -89,21 +88,21 @@ pub good_updated : (e : ℤ) (m : MonoInputVolumeController) → Good m → Good
 unfolding updated_input_volume
 good_updated e m g = unless_zero_lem (is_zero (held_error e)) (held_error e) m g
 
-pub good_corrected : (e : RmsError) (m : MonoInputVolumeController) → Good m → Good (corrected e m)
+pub good_corrected : (e : Option ℤ) (m : MonoInputVolumeController) → Good m → Good (corrected e m)
 unfolding corrected
-good_corrected NoError m g = g
-good_corrected (Db z) m g = good_updated z m g
+good_corrected None m g = g
+good_corrected (Some z) m g = good_updated z m g
 
-pub good_waited : (t : Bool) (e : RmsError) (m : MonoInputVolumeController) → Good m → Good (waited t e m)
+pub good_waited : (t : Bool) (e : Option ℤ) (m : MonoInputVolumeController) → Good m → Good (waited t e m)
 unfolding waited
 good_waited true e m g = good_corrected e m g
 good_waited false e m g = g
 
-unless_waited_lem : (t : Bool) (e : RmsError) (s : ℕ) (m : MonoInputVolumeController) → ltb (m.frames + 1) m.wait ≡ t → s ≤ m.frames + 1 → Good m → Good (unless_waited t e s m)
+unless_waited_lem : (t : Bool) (e : Option ℤ) (s : ℕ) (m : MonoInputVolumeController) → ltb (m.frames + 1) m.wait ≡ t → s ≤ m.frames + 1 → Good m → Good (unless_waited t e s m)
 unless_waited_lem true e s m w h g = let k = ltb-true (m.frames + 1) m.wait w in omega arith
 unless_waited_lem false e s m w h g = good_waited (may_act s m) e (counts 0 0 m.first m) (good_restarted m.first m g)
 
-pub good_counted : (e : RmsError) (s : ℕ) (m : MonoInputVolumeController) → s ≤ m.frames + 1 → Good m → Good (counted e s m)
+pub good_counted : (e : Option ℤ) (s : ℕ) (m : MonoInputVolumeController) → s ≤ m.frames + 1 → Good m → Good (counted e s m)
 unfolding counted
 good_counted e s m h g = unless_waited_lem (ltb (m.frames + 1) m.wait) e s m refl h g
 
@@ -119,7 +118,7 @@ speech_most p m g = omega (arith, one_more (le m.probability p) m.speech)
 pub good_not_first : (m : MonoInputVolumeController) → Good m → Good (counts m.frames m.speech false m)
 good_not_first m g = omega arith
 
-pub good_processed : (e : RmsError) (p : Float) (m : MonoInputVolumeController) → Good m → Good (processed e p m)
+pub good_processed : (e : Option ℤ) (p : Float) (m : MonoInputVolumeController) → Good m → Good (processed e p m)
 unfolding processed
 good_processed e p m g =
     let s = good_settled m g in

@@ -7,4 +7,3 @@ pub mod Users
 pub mod Ceiling
 pub mod ClippingSteps
 pub mod OneRounding
-pub mod Says

@@ -1,73 +1,22 @@
 -- The definitions of a channel's calls, one way through each at a time. Assumes nothing.
-use mathlib.Core.Path.{◌≡◌, refl, sym, ap, ◌∙◌}
+use mathlib.Core.Path.{◌≡◌, refl, ap, ◌∙◌}
 use mathlib.Core.Bool.{Bool, true, false}
 use Prim.Native.Nat.{ℕ, ◌+◌, ◌^◌, ◌≤◌, ◌<◌, min, max}
 use native.Mathlib.Omega.{arith}
-use lib.Dec.{T, eqb, ltb, le→leb}
+use lib.Dec.{T, le→leb}
 use lib.IntN.{ℤ, pos, negsuc}
-use lib.Signed.{lt_z}
 use lib.Ieee.{Float, binary32, le, div, of_int, in_float}
 use mir.Syntax.{w32}
 use mir.Val.{of_z, SFits}
-use borrow.Author.Tests.{lt-ltb, le-ltb, le-leb, lt-leb, eq-eqb, ne_eqb, ltb-true, ltb-false}
-use Rattle.numbers.proofs.Signs.{clash}
+use borrow.Author.Tests.{lt-ltb, le-ltb, le-leb, lt-leb, eq-eqb, ne_eqb}
+use Rattle.std.specs.Prelude.{None, Option, Some}
 use Rattle.gain_map.specs.VolumeUpdate.{walk}
-use Rattle.mono_input_volume_controller.specs.declared.speech_level.RmsError.{RmsError}
-use Rattle.mono_input_volume_controller.specs.declared.speech_level.RmsError.TheVariants.{NoError, Db}
 use Rattle.mono_input_volume_controller.specs.declared.mono.MonoInputVolumeController.{MonoInputVolumeController}
 use Rattle.mono_input_volume_controller.specs.MonoState.{max_input_volume, max_wait, volumes, flags, counts}
-use Rattle.mono_input_volume_controller.specs.Mono.{volume_quantization_slack, check_asked, handled_capture_output_used_change, is_users, taken_from_user, with_input_volume, lowered, handled_clipping}
+use Rattle.mono_input_volume_controller.specs.Mono.{check_asked, handled_capture_output_used_change, is_users, taken_from_user, with_input_volume, lowered, handled_clipping}
 use Rattle.mono_input_volume_controller.specs.MonoProcess.{stays_muted, checked_volume_and_reset, held_error, is_zero, updated_input_volume, settled, speech_frames, may_act, corrected, waited, counted, not_first, processed}
 
--- ---- the tests
-
-module _ (check used on : Bool) where
-  pub asked_used : used ≡ true → check ≡ check_asked check used on
-  unfolding check_asked
-  asked_used a = rw a
-
-  pub asked_on : used ≡ false → on ≡ true → true ≡ check_asked check used on
-  unfolding check_asked
-  asked_on a b = rw (a, b)
-
-  pub asked_off : used ≡ false → on ≡ false → check ≡ check_asked check used on
-  unfolding check_asked
-  asked_off a b = rw (a, b)
-
-module _ (last here : ℕ) where
-  pub users_above : last + volume_quantization_slack < here → true ≡ is_users last here
-  unfolding is_users
-  users_above h = rw (lt-ltb (last + volume_quantization_slack) here h)
-
-  pub users_else : here ≤ last + volume_quantization_slack → ltb (here + volume_quantization_slack) last ≡ is_users last here
-  unfolding is_users
-  users_else h = rw (le-ltb (last + volume_quantization_slack) here h)
-
-module _ (startup : Bool) (volume : ℕ) where
-  pub muted_startup : startup ≡ true → false ≡ stays_muted startup volume
-  unfolding stays_muted
-  muted_startup a = rw a
-
-  pub muted_later : startup ≡ false → eqb volume 0 ≡ stays_muted startup volume
-  unfolding stays_muted
-  muted_later a = rw a
-
 -- ---- the error held
-
-pub hold_low : (z : ℤ) → lt_z z (negsuc 14) ≡ true → negsuc 14 ≡ held_error z
-unfolding held_error
-hold_low (pos n) t = clash (sym t)
-hold_low (negsuc n) t = let h = ltb-true 14 n t in let e : 14 ≡ min n 14 = omega arith in ap negsuc e
-
-pub hold_high : (z : ℤ) → lt_z (pos 15) z ≡ true → pos 15 ≡ held_error z
-unfolding held_error
-hold_high (pos n) t = let h = ltb-true 15 n t in let e : 15 ≡ min n 15 = omega arith in ap pos e
-hold_high (negsuc n) t = clash (sym t)
-
-pub hold_keep : (z : ℤ) → lt_z z (negsuc 14) ≡ false → lt_z (pos 15) z ≡ false → z ≡ held_error z
-unfolding held_error
-hold_keep (pos n) t u = let h = ltb-false 15 n u in let e : n ≡ min n 15 = omega arith in ap pos e
-hold_keep (negsuc n) t u = let h = ltb-false 14 n t in let e : n ≡ min n 14 = omega arith in ap negsuc e
 
 -- the bits are 0 exactly at the number 0
 pub zero_bits : (z : ℤ) → SFits w32 z → of_z w32 z ≡ 0 → is_zero z ≡ true
@@ -149,12 +98,12 @@ module _ (m : MonoInputVolumeController) where
     unfolding updated_input_volume
     update_walk v z q = rw (← p, z, ← q)
 
-  module _ (error : RmsError) where
-    pub correct_none : error ≡ NoError → m ≡ corrected error m
+  module _ (error : Option ℤ) where
+    pub correct_none : error ≡ None → m ≡ corrected error m
     unfolding corrected
     correct_none e = rw e
 
-    pub correct_by : (z : ℤ) → error ≡ Db z → updated_input_volume z m ≡ corrected error m
+    pub correct_by : (z : ℤ) → error ≡ Some z → updated_input_volume z m ≡ corrected error m
     unfolding corrected
     correct_by z e = rw e
 
@@ -195,7 +144,7 @@ module _ (m : MonoInputVolumeController) where
     act_ratio a = rw a
 
 -- a frame, from its three steps
-pub process_is : (error : RmsError) (p : Float) (m a : MonoInputVolumeController) (s : ℕ) (n : MonoInputVolumeController) → a ≡ settled m → s ≡ speech_frames p a → n ≡ counted error s a
+pub process_is : (error : Option ℤ) (p : Float) (m a : MonoInputVolumeController) (s : ℕ) (n : MonoInputVolumeController) → a ≡ settled m → s ≡ speech_frames p a → n ≡ counted error s a
     → not_first n ≡ processed error p m
 unfolding processed
 process_is error p m a s n x y z = ap not_first (z ∙ ap (λ (k : ℕ). counted error k a) y ∙ ap (λ (k : MonoInputVolumeController). counted error (speech_frames p k) k) x)

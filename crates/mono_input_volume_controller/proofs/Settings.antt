@@ -1,70 +1,35 @@
 -- The tests of the settings, one way through each at a time, and what they give. Assumes nothing.
 use mathlib.Core.Path.{◌≡◌, refl, sym, ap, subst⁻¹}
-use mathlib.Core.Bool.{Bool, true, false, ◌&&◌}
+use mathlib.Core.Bool.{Bool, true, false, cond, ◌&&◌, ◌||◌}
 use Prim.Native.Nat.{ℕ, ◌≤◌}
 use native.Mathlib.Omega.{arith}
 use lib.Dec.{T}
 use lib.IntN.{ℤ, pos, negsuc, nat_abs}
-use lib.Signed.{le_z, lt_z, ◌≤ℤ◌}
-use lib.Ieee.{Float, binary32, le, of_int}
-use borrow.Author.Tests.{ltb-true, ltb-false, le-leb, lt-leb, leb-true}
+use lib.Signed.{le_z, ◌≤ℤ◌}
+use lib.Ieee.{Float, lt, eq, le}
+use Rattle.std.specs.Prelude.{Some, None, Err, Ok}
+use Rattle.std.specs.declared.cmp.Ordering.TheVariants.{Less, Equal, Greater}
+use Rattle.std.specs.Ordering.{is_some_and, is_le, partial_le, float_partial_cmp}
+use borrow.Author.Tests.{le-leb, leb-true}
 use Rattle.numbers.proofs.Signs.{clash}
 use Rattle.numbers.specs.declared.refusal.Refusal.TheVariants.{MinimumVolume, ClippedLevelStep, WaitFrames, TargetRange, SpeechThreshold}
 use Rattle.mono_input_volume_controller.specs.declared.config.Config.{Config}
 use Rattle.mono_input_volume_controller.specs.declared.config.Settings.{Settings}
-use Rattle.mono_input_volume_controller.specs.declared.config.Checked.TheVariants as Checked
 use Rattle.mono_input_volume_controller.specs.SpeechLevel.{lowest_db, highest_db, GoodTargets}
-use Rattle.mono_input_volume_controller.specs.Config.{in_range, both_in_range, in_unit, both_in_unit, volumes_in_range, step_in_range, waits_in_range, targets_in_range, thresholds_in_range, settings_from, settings_of, InOrder}
+use Rattle.mono_input_volume_controller.specs.Config.{in_range, both_in_range, volumes_in_range, step_in_range, waits_in_range, targets_in_range, thresholds_in_range, settings_from, settings_of, InOrder}
 
--- ---- the order
+-- ---- the tests
 
-less_not_le : (a b : ℤ) → lt_z a b ≡ true → le_z b a ≡ false
-less_not_le (pos a) (pos b) t = lt-leb b a (ltb-true a b t)
-less_not_le (pos a) (negsuc b) t = clash (sym t)
-less_not_le (negsuc a) (pos b) t = refl
-less_not_le (negsuc a) (negsuc b) t = lt-leb a b (ltb-true b a t)
+-- the order of floats, as a comparison of two of them answers it
+le_compared : (less same more : Bool) → is_some_and is_le (cond less (Some Less) (cond same (Some Equal) (cond more (Some Greater) None))) ≡ (less || same)
+le_compared true same more = refl
+le_compared false true more = refl
+le_compared false false true = refl
+le_compared false false false = refl
 
-not_less_le : (a b : ℤ) → lt_z a b ≡ false → le_z b a ≡ true
-not_less_le (pos a) (pos b) t = le-leb b a (ltb-false a b t)
-not_less_le (pos a) (negsuc b) t = refl
-not_less_le (negsuc a) (pos b) t = clash t
-not_less_le (negsuc a) (negsuc b) t = le-leb a b (ltb-false b a t)
-
-module _ (low high x : ℤ) where
-  pub range_below : lt_z x low ≡ true → false ≡ in_range low high x
-  unfolding in_range
-  range_below t = rw (less_not_le x low t)
-
-  pub range_above : lt_z x low ≡ false → le_z x high ≡ in_range low high x
-  unfolding in_range
-  range_above t = rw (not_less_le x low t)
-
-  module _ (y : ℤ) where
-    pub both_first : in_range low high x ≡ false → false ≡ both_in_range low high x y
-    unfolding both_in_range
-    both_first e = rw e
-
-    pub both_second : in_range low high x ≡ true → in_range low high y ≡ both_in_range low high x y
-    unfolding both_in_range
-    both_second e = rw e
-
-module _ (x : Float) where
-  pub unit_from_zero : le (of_int binary32 (pos 0)) x ≡ true → le x (of_int binary32 (pos 1)) ≡ in_unit x
-  unfolding in_unit
-  unit_from_zero e = rw e
-
-  pub unit_not : le (of_int binary32 (pos 0)) x ≡ false → false ≡ in_unit x
-  unfolding in_unit
-  unit_not e = rw e
-
-  module _ (y : Float) where
-    pub units_first : in_unit x ≡ false → false ≡ both_in_unit x y
-    unfolding both_in_unit
-    units_first e = rw e
-
-    pub units_second : in_unit x ≡ true → in_unit y ≡ both_in_unit x y
-    unfolding both_in_unit
-    units_second e = rw e
+pub partial_le_is : (x y : Float) → partial_le float_partial_cmp x y ≡ le x y
+unfolding le
+partial_le_is x y = le_compared (lt x y) (eq x y) (lt y x)
 
 -- ---- what the tests give
 
@@ -112,29 +77,29 @@ targets_good max min e =
 -- ---- the first cause that holds
 
 module _ (c : Config) where
-  pub first_volumes : volumes_in_range c ≡ false → Checked.Refused MinimumVolume ≡ settings_of c
+  pub first_volumes : volumes_in_range c ≡ false → Err MinimumVolume ≡ settings_of c
   unfolding settings_of
   first_volumes a = rw a
 
   module _ (volumes : volumes_in_range c ≡ true) where
-    pub first_step : step_in_range c ≡ false → Checked.Refused ClippedLevelStep ≡ settings_of c
+    pub first_step : step_in_range c ≡ false → Err ClippedLevelStep ≡ settings_of c
     unfolding settings_of
     first_step a = rw (volumes, a)
 
     module _ (step : step_in_range c ≡ true) where
-      pub first_waits : waits_in_range c ≡ false → Checked.Refused WaitFrames ≡ settings_of c
+      pub first_waits : waits_in_range c ≡ false → Err WaitFrames ≡ settings_of c
       unfolding settings_of
       first_waits a = rw (volumes, step, a)
 
       module _ (waits : waits_in_range c ≡ true) where
-        pub first_targets : targets_in_range c ≡ false → Checked.Refused TargetRange ≡ settings_of c
+        pub first_targets : targets_in_range c ≡ false → Err TargetRange ≡ settings_of c
         unfolding settings_of
         first_targets a = rw (volumes, step, waits, a)
 
-        pub first_thresholds : targets_in_range c ≡ true → thresholds_in_range c ≡ false → Checked.Refused SpeechThreshold ≡ settings_of c
+        pub first_thresholds : targets_in_range c ≡ true → thresholds_in_range c ≡ false → Err SpeechThreshold ≡ settings_of c
         unfolding settings_of
         first_thresholds a b = rw (volumes, step, waits, a, b)
 
-  pub no_cause : (s : Settings) → InOrder c → s ≡ settings_from c → Checked.InOrder s ≡ settings_of c
+  pub no_cause : (s : Settings) → InOrder c → s ≡ settings_from c → Ok s ≡ settings_of c
   unfolding settings_of
-  no_cause s o e = rw (o.volumes, o.step, o.waits, o.targets, o.thresholds) (ap Checked.InOrder e)
+  no_cause s o e = rw (o.volumes, o.step, o.waits, o.targets, o.thresholds) (ap Ok e)

@@ -1,14 +1,12 @@
 -- Document 01, "What a call can say no to", causes 2 to 6: the settings of a controller, the tests of them in rising number, and what is kept. Definitions only.
-use Rattle.std.specs.Prelude.{◌≡◌, Bool, true, false, ◌&&◌, ◌≤◌, max, ℤ, pos, negsuc, nat_abs, Float}
+use Rattle.std.specs.Prelude.{◌≡◌, Bool, true, false, ◌&&◌, ◌≤◌, max, ℤ, pos, negsuc, nat_abs, Float, Err, Ok, Result}
 use Rattle.std.specs.Int.Signed.{le_z}
 use Rattle.std.specs.Float.{binary32}
 use Rattle.std.specs.Float.Ieee.{le, of_bits, of_int}
+use Rattle.numbers.specs.declared.refusal.Refusal.{Refusal}
 use Rattle.numbers.specs.declared.refusal.Refusal.TheVariants.{MinimumVolume, ClippedLevelStep, WaitFrames, TargetRange, SpeechThreshold}
-use Rattle.numbers.specs.Refusal.{number_of}
-use Rattle.numbers.specs.Said.{Said, accepted, refused}
 use Rattle.mono_input_volume_controller.specs.declared.config.Config.{Config}
 use Rattle.mono_input_volume_controller.specs.declared.config.Settings.{Settings}
-use Rattle.mono_input_volume_controller.specs.declared.config.Checked.{Checked}
 use Rattle.mono_input_volume_controller.specs.MonoState.{max_input_volume, max_wait}
 use Rattle.mono_input_volume_controller.specs.SpeechLevel.{lowest_db, highest_db, GoodTargets}
 
@@ -83,21 +81,16 @@ settings_from c = record {
   speech_ratio = c.speech_ratio_threshold;
 }
 
--- document 01's number and values for each case of the answer
-abbrev pub checked_says : Checked → Said Settings
-checked_says (Checked.InOrder s) = accepted s
-checked_says (Checked.Refused cause) = refused (number_of cause)
-
 -- the first cause that holds: volumes, step, waits, targets, thresholds
-abbrev pub checked_if : Bool → Bool → Bool → Bool → Bool → Settings → Checked
-checked_if false step waits targets thresholds s = Checked.Refused MinimumVolume
-checked_if true false waits targets thresholds s = Checked.Refused ClippedLevelStep
-checked_if true true false targets thresholds s = Checked.Refused WaitFrames
-checked_if true true true false thresholds s = Checked.Refused TargetRange
-checked_if true true true true false s = Checked.Refused SpeechThreshold
-checked_if true true true true true s = Checked.InOrder s
+abbrev pub checked_if : Bool → Bool → Bool → Bool → Bool → Settings → Result Settings Refusal
+checked_if false step waits targets thresholds s = Err MinimumVolume
+checked_if true false waits targets thresholds s = Err ClippedLevelStep
+checked_if true true false targets thresholds s = Err WaitFrames
+checked_if true true true false thresholds s = Err TargetRange
+checked_if true true true true false s = Err SpeechThreshold
+checked_if true true true true true s = Ok s
 
-unfoldable pub settings_of : Config → Checked
+unfoldable pub settings_of : Config → Result Settings Refusal
 unfolding both_in_range in_range both_in_unit settings_from
 settings_of c = checked_if (volumes_in_range c) (step_in_range c) (waits_in_range c) (targets_in_range c) (thresholds_in_range c) (settings_from c)
 

@@ -1,10 +1,8 @@
 -- Document 01, "Volume steps and one channel": one frame of a channel, by the source's `process`, `check_volume_and_reset` and `update_input_volume`. Definitions only.
-use Rattle.std.specs.Prelude.{Bool, true, false, ℕ, ◌+◌, ◌-◌, min, max, ltb, eqb, ℤ, pos, negsuc, Float}
+use Rattle.std.specs.Prelude.{Bool, true, false, ℕ, ◌+◌, ◌-◌, min, max, ltb, eqb, ℤ, pos, negsuc, Float, None, Option, Some}
 use Rattle.std.specs.Float.{binary32}
 use Rattle.std.specs.Float.Ieee.{le, div, of_int}
 use Rattle.gain_map.specs.VolumeUpdate.{walk}
-use Rattle.mono_input_volume_controller.specs.declared.speech_level.RmsError.{RmsError}
-use Rattle.mono_input_volume_controller.specs.declared.speech_level.RmsError.TheVariants.{NoError, Db}
 use Rattle.mono_input_volume_controller.specs.declared.mono.MonoInputVolumeController.{MonoInputVolumeController}
 use Rattle.mono_input_volume_controller.specs.MonoState.{max_input_volume, volumes, flags, counts}
 use Rattle.mono_input_volume_controller.specs.Mono.{with_input_volume}
@@ -77,23 +75,23 @@ unfoldable pub may_act : ℕ → MonoInputVolumeController → Bool
 may_act speech m = unless_first m.first (le m.ratio (div binary32 (of_int binary32 (pos speech)) (of_int binary32 (pos m.wait))))
 
 -- "Absent means no error"
-unfoldable pub corrected : RmsError → MonoInputVolumeController → MonoInputVolumeController
+unfoldable pub corrected : Option ℤ → MonoInputVolumeController → MonoInputVolumeController
 unfolding updated_input_volume
-corrected NoError m = m
-corrected (Db error) m = updated_input_volume error m
+corrected None m = m
+corrected (Some error) m = updated_input_volume error m
 
 -- with speech enough in the wait, the error acts
-unfoldable pub waited : Bool → RmsError → MonoInputVolumeController → MonoInputVolumeController
+unfoldable pub waited : Bool → Option ℤ → MonoInputVolumeController → MonoInputVolumeController
 unfolding corrected
 waited true error m = corrected error m
 waited false error m = m
 
 -- one frame more; at the end of the wait the counts start anew, and the error may act
-abbrev pub unless_waited : Bool → RmsError → ℕ → MonoInputVolumeController → MonoInputVolumeController
+abbrev pub unless_waited : Bool → Option ℤ → ℕ → MonoInputVolumeController → MonoInputVolumeController
 unless_waited true error speech m = counts (m.frames + 1) speech m.first m
 unless_waited false error speech m = waited (may_act speech m) error (counts 0 0 m.first m)
 
-unfoldable pub counted : RmsError → ℕ → MonoInputVolumeController → MonoInputVolumeController
+unfoldable pub counted : Option ℤ → ℕ → MonoInputVolumeController → MonoInputVolumeController
 unfolding may_act waited
 counted error speech m = unless_waited (ltb (m.frames + 1) m.wait) error speech m
 
@@ -101,6 +99,6 @@ counted error speech m = unless_waited (ltb (m.frames + 1) m.wait) error speech 
 abbrev pub not_first : MonoInputVolumeController → MonoInputVolumeController
 not_first m = counts m.frames m.speech false m
 
-unfoldable pub processed : RmsError → Float → MonoInputVolumeController → MonoInputVolumeController
+unfoldable pub processed : Option ℤ → Float → MonoInputVolumeController → MonoInputVolumeController
 unfolding settled speech_frames counted
 processed error probability m = not_first (counted error (speech_frames probability (settled m)) (settled m))

@@ -1,13 +1,9 @@
 -- Document 01, "Volume steps and one channel": "Speech error: the speech level is either absent or a float. Absent means no error; not-a-number gives 0;
 -- else hold it to -90 to 30, and above the maximum, else below the minimum, the error is target minus level, rounded to whole with halves away from zero." Definitions only.
-use Rattle.std.specs.Prelude.{Bool, true, false, ℤ, pos, negsuc, ◌≤ℤ◌, Float}
+use Rattle.std.specs.Prelude.{Bool, true, false, ℤ, pos, negsuc, ◌≤ℤ◌, Float, None, Option, Some}
 use Rattle.std.specs.Float.{binary32}
 use Rattle.std.specs.Float.Ieee.{lt, sub, of_int}
 use Rattle.levels.specs.Rounding.{round_of}
-use Rattle.mono_input_volume_controller.specs.declared.speech_level.SpeechLevel.{SpeechLevel}
-use Rattle.mono_input_volume_controller.specs.declared.speech_level.SpeechLevel.TheVariants.{Absent, Dbfs}
-use Rattle.mono_input_volume_controller.specs.declared.speech_level.RmsError.{RmsError}
-use Rattle.mono_input_volume_controller.specs.declared.speech_level.RmsError.TheVariants.{NoError, Db}
 
 -- the lowest and the highest level, -90 and 30, as whole numbers and as floats
 abbrev pub lowest_db : ℤ
@@ -48,7 +44,7 @@ unfoldable pub error_of : Float → ℤ → ℤ → ℤ
 error_of level min max = error_if (lt (of_int binary32 max) level) (lt level (of_int binary32 min)) level (of_int binary32 min) (of_int binary32 max)
 
 -- "Absent means no error": `get_speech_level_rms_error_db`
-unfoldable pub rms_error_of : SpeechLevel → ℤ → ℤ → RmsError
+unfoldable pub rms_error_of : Option Float → ℤ → ℤ → Option ℤ
 unfolding held error_of
-rms_error_of Absent min max = NoError
-rms_error_of (Dbfs level) min max = Db (error_of (held level) min max)
+rms_error_of None min max = None
+rms_error_of (Some level) min max = Some (error_of (held level) min max)

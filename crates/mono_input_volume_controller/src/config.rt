@@ -1,6 +1,7 @@
 // The settings: what a controller is made from, and what of it is kept. Ports `Config`.
 ghost use Rattle.std.specs.Prelude.{◌≡◌};
-ghost use Rattle.mono_input_volume_controller.specs.Config.{defaults, in_range, both_in_range, in_unit, both_in_unit, InOrder, settings_from, checked_says, settings_of};
+ghost use Rattle.numbers.specs.Said.{said};
+ghost use Rattle.mono_input_volume_controller.specs.Config.{defaults, in_range, both_in_range, in_unit, both_in_unit, InOrder, settings_from, settings_of};
 
 use numbers::refusal::Refusal;
 
@@ -37,66 +38,54 @@ pub struct Settings {
     pub predicts: bool,
 }
 
-#[derive(Clone, Copy)]
-pub enum Checked {
-    InOrder(Settings),
-    Refused(Refusal),
-}
-
 // The source's default settings.
-pub fn default_config() -> Config
-    ensures { result ≡ defaults }
-{
-    Config {
-        min_input_volume: 20,
-        clipped_level_min: 70,
-        clipped_level_step: 15,
-        clipped_ratio_threshold: 0.1,
-        clipped_wait_frames: 300,
-        enable_clipping_predictor: true,
-        target_range_max_dbfs: -30,
-        target_range_min_dbfs: -50,
-        update_input_volume_wait_frames: 100,
-        speech_probability_threshold: 0.7,
-        speech_ratio_threshold: 0.6,
+impl Default for Config {
+    ghost is_default = { λ config. config ≡ defaults };
+
+    fn default() -> Config {
+        Config {
+            min_input_volume: 20,
+            clipped_level_min: 70,
+            clipped_level_step: 15,
+            clipped_ratio_threshold: 0.1,
+            clipped_wait_frames: 300,
+            enable_clipping_predictor: true,
+            target_range_max_dbfs: -30,
+            target_range_min_dbfs: -50,
+            update_input_volume_wait_frames: 100,
+            speech_probability_threshold: 0.7,
+            speech_ratio_threshold: 0.6,
+        }
     }
 }
 
+#[tactic(auto, unfolding(crate::specs::Config::in_range))]
 pub(crate) fn in_range(low: i32, high: i32, x: i32) -> bool
     ensures { result ≡ in_range low high x }
 {
-    if x < low {
-        return false;
-    }
-    x <= high
+    (low..=high).contains(&x)
 }
 
+#[tactic(auto, unfolding(crate::specs::Config::both_in_range))]
 pub fn both_in_range(low: i32, high: i32, x: i32, y: i32) -> bool
     ensures { result ≡ both_in_range low high x y }
 {
-    if !in_range(low, high, x) {
-        return false;
-    }
-    in_range(low, high, y)
+    in_range(low, high, x) && in_range(low, high, y)
 }
 
 // From 0 to 1. A not-a-number is not.
+#[tactic(auto, unfolding(crate::specs::Config::in_unit))]
 pub(crate) fn in_unit(x: f32) -> bool
     ensures { result ≡ in_unit x }
 {
-    if 0.0 <= x {
-        return x <= 1.0;
-    }
-    false
+    (0.0..=1.0).contains(&x)
 }
 
+#[tactic(auto, unfolding(crate::specs::Config::both_in_unit))]
 fn both_in_unit(x: f32, y: f32) -> bool
     ensures { result ≡ both_in_unit x y }
 {
-    if !in_unit(x) {
-        return false;
-    }
-    in_unit(y)
+    in_unit(x) && in_unit(y)
 }
 
 // Settings in range, as they are kept.
@@ -105,18 +94,15 @@ fn kept(config: Config) -> Settings
     ensures { result ≡ settings_from config }
 {
     Settings {
-        least: numbers::sign::size(config.min_input_volume) as u8,
-        floor: numbers::sign::size(config.clipped_level_min) as u8,
-        step: numbers::sign::size(config.clipped_level_step) as u8,
+        least: config.min_input_volume.unsigned_abs() as u8,
+        floor: config.clipped_level_min.unsigned_abs() as u8,
+        step: config.clipped_level_step.unsigned_abs() as u8,
         clipped_ratio: config.clipped_ratio_threshold,
-        clipped_wait: numbers::sign::size(config.clipped_wait_frames),
+        clipped_wait: config.clipped_wait_frames.unsigned_abs(),
         predicts: config.enable_clipping_predictor,
         max_target: config.target_range_max_dbfs,
         min_target: config.target_range_min_dbfs,
-        update_wait: numbers::word::larger(
-            1,
-            numbers::sign::size(config.update_input_volume_wait_frames),
-        ),
+        update_wait: config.update_input_volume_wait_frames.unsigned_abs().max(1),
         speech_probability: config.speech_probability_threshold,
         speech_ratio: config.speech_ratio_threshold,
     }
@@ -126,18 +112,18 @@ fn kept(config: Config) -> Settings
 pub fn default_settings() -> Settings
     ensures { result ≡ settings_from defaults }
 {
-    kept(default_config())
+    kept(Config::default())
 }
 
 // Causes 2 to 6, in that order.
-pub fn check(config: Config) -> Checked
-    ensures { checked_says result ≡ checked_says (settings_of config) }
+pub fn check(config: Config) -> Result<Settings, Refusal>
+    ensures { said result ≡ said (settings_of config) }
 {
     if !both_in_range(0, 255, config.min_input_volume, config.clipped_level_min) {
-        return Checked::Refused(Refusal::MinimumVolume);
+        return Err(Refusal::MinimumVolume);
     }
     if !in_range(1, 255, config.clipped_level_step) {
-        return Checked::Refused(Refusal::ClippedLevelStep);
+        return Err(Refusal::ClippedLevelStep);
     }
     if !both_in_range(
         0,
@@ -145,7 +131,7 @@ pub fn check(config: Config) -> Checked
         config.clipped_wait_frames,
         config.update_input_volume_wait_frames,
     ) {
-        return Checked::Refused(Refusal::WaitFrames);
+        return Err(Refusal::WaitFrames);
     }
     if !both_in_range(
         -90,
@@ -153,13 +139,13 @@ pub fn check(config: Config) -> Checked
         config.target_range_max_dbfs,
         config.target_range_min_dbfs,
     ) {
-        return Checked::Refused(Refusal::TargetRange);
+        return Err(Refusal::TargetRange);
     }
     if !both_in_unit(
         config.speech_probability_threshold,
         config.speech_ratio_threshold,
     ) {
-        return Checked::Refused(Refusal::SpeechThreshold);
+        return Err(Refusal::SpeechThreshold);
     }
-    Checked::InOrder(kept(config))
+    Ok(kept(config))
 }

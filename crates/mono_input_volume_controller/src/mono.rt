@@ -5,13 +5,11 @@ ghost use Rattle.mono_input_volume_controller.specs.Mono.{initialized, check_ask
 ghost use Rattle.mono_input_volume_controller.specs.SameVolumes.{same_volumes};
 ghost use Rattle.mono_input_volume_controller.specs.MonoProcess.{stays_muted, checked_volume_and_reset, settled, held_error, updated_input_volume, corrected, speech_frames, may_act, waited, counted, processed};
 
-use crate::speech_level::RmsError;
-
 // The highest input volume.
 pub const MAX_INPUT_VOLUME: u8 = 255;
 
 // How far the volume may lie from the last one before it is taken as the user's.
-const VOLUME_QUANTIZATION_SLACK: u32 = 25;
+const VOLUME_QUANTIZATION_SLACK: u8 = 25;
 
 // The largest error, either way, that is corrected at once, in dB.
 const MAX_ABS_RMS_ERROR_DBFS: i32 = 15;
@@ -51,63 +49,43 @@ pub struct MonoInputVolumeController {
 }
 
 // Whether a check is to be made: where it was, and where capture is switched on from off.
+#[tactic(auto, unfolding(crate::specs::Mono::check_asked))]
 fn check_asked(check: bool, used: bool, on: bool) -> bool
     ensures { result ≡ check_asked check used on }
 {
-    if used {
-        return check;
-    }
-    if on {
-        return true;
-    }
-    check
+    check || (on && !used)
 }
 
 // Whether a volume lies so far from the last one that it is the user's.
+#[tactic(auto, unfolding(crate::specs::Mono::is_users))]
 fn is_users(last: u8, here: u8) -> bool
     ensures { result ≡ is_users last here }
 {
-    if (last as u32) + VOLUME_QUANTIZATION_SLACK < (here as u32) {
-        return true;
-    }
-    (here as u32) + VOLUME_QUANTIZATION_SLACK < (last as u32)
+    last.abs_diff(here) > VOLUME_QUANTIZATION_SLACK
 }
 
 // A volume of 0 is left alone, but not at the startup.
+#[tactic(auto, unfolding(crate::specs::MonoProcess::stays_muted))]
 fn stays_muted(startup: bool, volume: u8) -> bool
     ensures { result ≡ stays_muted startup volume }
 {
-    if startup {
-        return false;
-    }
-    volume == 0
+    volume == 0 && !startup
 }
 
 // An error held to what is corrected at once.
+#[tactic(auto, unfolding(crate::specs::MonoProcess::held_error))]
 fn hold_error(error: i32) -> i32
     ensures { result ≡ held_error error }
 {
-    let lowest = -MAX_ABS_RMS_ERROR_DBFS;
-    if error < lowest {
-        return lowest;
-    }
-    if error > MAX_ABS_RMS_ERROR_DBFS {
-        return MAX_ABS_RMS_ERROR_DBFS;
-    }
-    error
+    error.clamp(-MAX_ABS_RMS_ERROR_DBFS, MAX_ABS_RMS_ERROR_DBFS)
 }
 
 // Whether a volume of two states differs.
+#[tactic(auto, unfolding(crate::specs::SameVolumes::same_volumes))]
 pub fn other_volumes(a: MonoInputVolumeController, b: MonoInputVolumeController) -> bool
     ensures { result ≡ not (same_volumes a b) }
 {
-    if a.ceiling != b.ceiling {
-        return true;
-    }
-    if a.last != b.last {
-        return true;
-    }
-    a.volume != b.volume
+    a.ceiling != b.ceiling || a.last != b.last || a.volume != b.volume
 }
 
 impl MonoInputVolumeController {
@@ -158,17 +136,11 @@ impl MonoInputVolumeController {
         let floor = self.floor as u8;
         let last = self.last;
         let mut m = self;
-        m.ceiling = numbers::byte::larger(
-            floor,
-            numbers::byte::less(self.ceiling, clipped_level_step),
-        );
+        m.ceiling = floor.max(self.ceiling.saturating_sub(clipped_level_step));
         if last <= floor {
             return m;
         }
-        let new_volume = numbers::byte::larger(
-            floor,
-            numbers::byte::less(last, clipped_level_step),
-        );
+        let new_volume = floor.max(last.saturating_sub(clipped_level_step));
         let mut n = m.set_input_volume(new_volume);
         n.frames = 0;
         n.speech = 0;
@@ -179,7 +151,7 @@ impl MonoInputVolumeController {
     // One frame: the check comes first, where one is asked for, and no frame is a first one after it.
     pub fn process(
         self,
-        rms_error_db: RmsError,
+        rms_error_db: Option<i32>,
         speech_probability: f32,
     ) -> MonoInputVolumeController
         requires { Good self }
@@ -198,7 +170,7 @@ impl MonoInputVolumeController {
         ensures { Becomes (taken_from_user self) result }
     {
         let mut m = self;
-        m.ceiling = numbers::byte::larger(self.ceiling, self.volume);
+        m.ceiling = self.ceiling.max(self.volume);
         m.last = self.volume;
         m.frames = 0;
         m.speech = 0;
@@ -219,7 +191,7 @@ impl MonoInputVolumeController {
         if is_users(last, here) {
             return self.taken_from_user();
         }
-        let new = numbers::byte::smaller(new_volume, self.ceiling);
+        let new = new_volume.min(self.ceiling);
         if new == last {
             return self;
         }
@@ -237,7 +209,7 @@ impl MonoInputVolumeController {
         if stays_muted(self.startup, self.volume) {
             return self;
         }
-        let input_volume = numbers::byte::larger(self.volume, self.least);
+        let input_volume = self.volume.max(self.least);
         let mut m = self;
         m.volume = input_volume;
         m.last = input_volume;
@@ -273,18 +245,16 @@ impl MonoInputVolumeController {
     }
 
     // Whether there was speech enough in the wait, and this is not a first frame.
+    #[tactic(auto, using(crate::proofs::Paths::count_held), unfolding(crate::specs::MonoProcess::may_act))]
     fn may_act(self, speech: u32) -> bool
         requires { Good self × (speech ≤ max_wait) }
         ensures { result ≡ may_act speech self }
     {
-        if self.first {
-            return false;
-        }
-        self.ratio <= (speech as f32) / (self.wait as f32)
+        !self.first && self.ratio <= (speech as f32) / (self.wait as f32)
     }
 
     // One frame more; at the end of the wait the counts start anew, and the error may act.
-    fn count_frame(self, speech: u32, rms_error_db: RmsError) -> MonoInputVolumeController
+    fn count_frame(self, speech: u32, rms_error_db: Option<i32>) -> MonoInputVolumeController
         requires { Good self × (speech ≤ self.frames + 1) }
         ensures { Becomes (counted rms_error_db speech self) result }
     {
@@ -302,7 +272,7 @@ impl MonoInputVolumeController {
     }
 
     // The counts have started anew; with speech enough the error acts.
-    fn end_wait(self, enough: bool, rms_error_db: RmsError) -> MonoInputVolumeController
+    fn end_wait(self, enough: bool, rms_error_db: Option<i32>) -> MonoInputVolumeController
         requires { Good self }
         ensures { Becomes (waited enough rms_error_db self) result }
     {
@@ -313,13 +283,13 @@ impl MonoInputVolumeController {
     }
 
     // No error changes nothing.
-    fn correct(self, rms_error_db: RmsError) -> MonoInputVolumeController
+    fn correct(self, rms_error_db: Option<i32>) -> MonoInputVolumeController
         requires { Good self }
         ensures { Becomes (corrected rms_error_db self) result }
     {
         match rms_error_db {
-            RmsError::NoError => self,
-            RmsError::Db(error) => self.update_input_volume(error),
+            None => self,
+            Some(error) => self.update_input_volume(error),
         }
     }
 

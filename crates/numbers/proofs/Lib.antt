@@ -9,3 +9,4 @@ pub mod Ranges
 pub mod Loops
 pub mod Arrays
 pub mod Said
+pub mod Asked

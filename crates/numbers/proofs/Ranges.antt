@@ -5,33 +5,25 @@ use mathlib.Core.Logic.{◌⊎◌, inl, inr}
 use Prim.Native.Nat.{ℕ, ◌≤◌, ◌<◌}
 use native.Mathlib.Omega.{arith}
 use lib.Dec.{leb}
-use lib.IntN.{ℤ, pos, negsuc, nat_abs}
-use lib.Signed.{mag, lt_z}
-use borrow.Author.Tests.{le-leb, lt-leb, ltb-true, leb-true, leb-false}
-use Rattle.numbers.specs.declared.natural.Natural.TheVariants.{Number, Outside}
+use lib.IntN.{ℤ, pos, negsuc}
+use lib.Signed.{mag}
+use borrow.Author.Tests.{le-leb, lt-leb, leb-true, leb-false}
+use Rattle.std.specs.Prelude.{None, Some}
 use Rattle.numbers.specs.Natural.{number_if, within_of, at_least_of}
-use Rattle.numbers.proofs.Signs.{clash}
 
-module _ (low high : ℕ) where
-  pub negative : (x : ℤ) → lt_z x (pos 0) ≡ true → Outside ≡ within_of low high x
+-- a natural number lies under the range, over it or inside
+module _ (low high n : ℕ) where
+  pub under : n < low → None ≡ within_of low high (pos n)
   unfolding within_of
-  negative (pos n) t = let h = ltb-true n 0 t in absurd (omega arith)
-  negative (negsuc n) t = refl
+  under h = rw (lt-leb low n h)
 
-  pub under : (x : ℤ) → lt_z x (pos 0) ≡ false → nat_abs x < low → Outside ≡ within_of low high x
+  pub over : low ≤ n → high < n → None ≡ within_of low high (pos n)
   unfolding within_of
-  under (pos n) t h = rw (lt-leb low n h)
-  under (negsuc n) t h = clash t
+  over l h = rw (le-leb low n l, lt-leb n high h)
 
-  pub over : (x : ℤ) → lt_z x (pos 0) ≡ false → low ≤ nat_abs x → high < nat_abs x → Outside ≡ within_of low high x
+  pub inside : low ≤ n → n ≤ high → Some n ≡ within_of low high (pos n)
   unfolding within_of
-  over (pos n) t l h = rw (le-leb low n l, lt-leb n high h)
-  over (negsuc n) t l h = clash t
-
-  pub inside : (x : ℤ) → lt_z x (pos 0) ≡ false → low ≤ nat_abs x → nat_abs x ≤ high → Number (nat_abs x) ≡ within_of low high x
-  unfolding within_of
-  inside (pos n) t l h = rw (le-leb low n l, le-leb n high h)
-  inside (negsuc n) t l h = clash t
+  inside l h = rw (le-leb low n l, le-leb n high h)
 
 -- ---- what an answer tells
 
@@ -41,25 +33,25 @@ pub record Inside (low high : ℕ) (x : ℤ) (n : ℕ) : Type 0 where
   pub least : low ≤ n
   pub most : n ≤ high
 
-kept : (low high m n : ℕ) (a b : Bool) → leb low m ≡ a → leb m high ≡ b → number_if (a && b) m ≡ Number n → Inside low high (pos m) n
+kept : (low high m n : ℕ) (a b : Bool) → leb low m ≡ a → leb m high ≡ b → number_if (a && b) m ≡ Some n → Inside low high (pos m) n
 kept low high m n true true p q e =
     let k : m ≡ n = cc in
     record { is = cc; least = omega (arith, leb-true low m p); most = omega (arith, leb-true m high q) }
 kept low high m n true false p q e = let z : ◌≡◌ {A = ℕ} 0 1 = cc in absurd (omega arith)
 kept low high m n false b p q e = let z : ◌≡◌ {A = ℕ} 0 1 = cc in absurd (omega arith)
 
-pub told : (low high : ℕ) (x : ℤ) (n : ℕ) → within_of low high x ≡ Number n → Inside low high x n
+pub told : (low high : ℕ) (x : ℤ) (n : ℕ) → within_of low high x ≡ Some n → Inside low high x n
 unfolding within_of
 told low high (pos m) n e = kept low high m n (leb low m) (leb m high) refl refl e
 told low high (negsuc m) n e = let z : ◌≡◌ {A = ℕ} 0 1 = cc in absurd (omega arith)
 
-left : (low high m : ℕ) (a b : Bool) → leb low m ≡ a → leb m high ≡ b → number_if (a && b) m ≡ Outside → (m < low) ⊎ (high < m)
+left : (low high m : ℕ) (a b : Bool) → leb low m ≡ a → leb m high ≡ b → number_if (a && b) m ≡ None → (m < low) ⊎ (high < m)
 left low high m true true p q e = let z : ◌≡◌ {A = ℕ} 0 1 = cc in absurd (omega arith)
 left low high m true false p q e = inr (leb-false m high q)
 left low high m false b p q e = inl (leb-false low m p)
 
 -- a natural number that is outside lies below or above
-pub outside : (low high m : ℕ) → within_of low high (pos m) ≡ Outside → (m < low) ⊎ (high < m)
+pub outside : (low high m : ℕ) → within_of low high (pos m) ≡ None → (m < low) ⊎ (high < m)
 unfolding within_of
 outside low high m e = left low high m (leb low m) (leb m high) refl refl e
 
@@ -75,5 +67,5 @@ unfolding within_of at_least_of
 at_least_is low high (pos n) h = rw (le-leb n high h, and_true (leb low n))
 at_least_is low high (negsuc n) h = refl
 
-pub told_least : (low : ℕ) (x : ℤ) (n : ℕ) → at_least_of low x ≡ Number n → Inside low (mag x) x n
+pub told_least : (low : ℕ) (x : ℤ) (n : ℕ) → at_least_of low x ≡ Some n → Inside low (mag x) x n
 told_least low x n e = told low (mag x) x n (at_least_is low (mag x) x (omega arith) ∙ e)

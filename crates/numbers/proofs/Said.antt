@@ -4,12 +4,11 @@ use mathlib.Core.List.{[], ◌∷◌}
 use Prim.Native.Nat.{ℕ, ◌≤◌, ◌<◌}
 use native.Mathlib.Omega.{arith}
 use lib.ListN.{get_or}
+use Rattle.std.specs.Prelude.{Err, Ok, Result}
 use Rattle.numbers.specs.declared.refusal.Refusal.{Refusal}
 use Rattle.numbers.specs.declared.refusal.Refusal.TheVariants.{ChannelCount, MinimumVolume, ClippedLevelStep, WaitFrames, TargetRange, SpeechThreshold, PredictorWindows, InputVolume, FrameSize, EstimateRange, RingRange, FrameLine, PredictorCapacity, PredictorLevels, FrameLimits, ClassroomProfile, VolumeCount}
-use Rattle.numbers.specs.declared.refusal.Outcome.{Outcome}
-use Rattle.numbers.specs.declared.refusal.Outcome.TheVariants.{Accepted, Refused}
 use Rattle.numbers.specs.Refusal.{number_of}
-use Rattle.numbers.specs.Said.{Said, accepted, refused, outcome_says}
+use Rattle.numbers.specs.Said.{Said, accepted, refused, said}
 
 pub fixed : {A B : Type 0} (says : A → B) (back : B → A) → ((a : A) → back (says a) ≡ a) → (a b : A) → says a ≡ says b → a ≡ b
 fixed says back same a b e = sym (same a) ∙ ap back e ∙ same b
@@ -70,12 +69,14 @@ abbrev pub answer_of : {A E : Type 0} → (A → E) → (Refusal → E) → Said
 answer_of value refusal (accepted values) = value values
 answer_of value refusal (refused number) = refusal (cause_of number)
 
-abbrev outcome_of : Said (Unit {0}) → Outcome
-outcome_of = answer_of (λ values. Accepted) Refused
+-- the way back
+abbrev said_back : {A : Type 0} → Said A → Result A Refusal
+said_back (accepted values) = Ok values
+said_back (refused number) = Err (cause_of number)
 
-outcome_back : (o : Outcome) → outcome_of (outcome_says o) ≡ o
-outcome_back Accepted = refl
-outcome_back (Refused cause) = ap Refused (cause_back cause)
+back_again : {A : Type 0} → (r : Result A Refusal) → said_back (said r) ≡ r
+back_again (Ok values) = refl
+back_again (Err cause) = ap Err (cause_back cause)
 
-pub outcome_fixed : (a b : Outcome) → outcome_says a ≡ outcome_says b → a ≡ b
-outcome_fixed = fixed outcome_says outcome_of outcome_back
+pub said_fixed : {A : Type 0} → (a b : Result A Refusal) → said a ≡ said b → a ≡ b
+said_fixed = fixed said said_back back_again

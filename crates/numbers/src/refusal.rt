@@ -2,7 +2,7 @@
 ghost use Rattle.std.specs.Prelude.{◌≡◌};
 ghost use Rattle.numbers.specs.Refusal.{number_of};
 
-#[derive(Clone, Copy)]
+#[derive(Clone, Copy, Debug, PartialEq, Eq)]
 pub enum Refusal {
     ChannelCount,
     MinimumVolume,
@@ -23,33 +23,28 @@ pub enum Refusal {
     VolumeCount,
 }
 
-// What a call answers that has nothing to say but that.
-#[derive(Clone, Copy)]
-pub enum Outcome {
-    Accepted,
-    Refused(Refusal),
-}
-
-pub fn number(cause: Refusal) -> u32
-    ensures { result ≡ number_of cause }
-{
-    match cause {
-        Refusal::ChannelCount => 1,
-        Refusal::MinimumVolume => 2,
-        Refusal::ClippedLevelStep => 3,
-        Refusal::WaitFrames => 4,
-        Refusal::TargetRange => 5,
-        Refusal::SpeechThreshold => 6,
-        Refusal::PredictorWindows => 7,
-        Refusal::InputVolume => 8,
-        Refusal::FrameSize => 9,
-        Refusal::EstimateRange => 10,
-        Refusal::RingRange => 11,
-        Refusal::FrameLine => 12,
-        Refusal::PredictorCapacity => 14,
-        Refusal::PredictorLevels => 15,
-        Refusal::FrameLimits => 18,
-        Refusal::ClassroomProfile => 19,
-        Refusal::VolumeCount => 20,
+impl Refusal {
+    pub fn number(self) -> u32
+        ensures { result ≡ number_of self }
+    {
+        match self {
+            Refusal::ChannelCount => 1,
+            Refusal::MinimumVolume => 2,
+            Refusal::ClippedLevelStep => 3,
+            Refusal::WaitFrames => 4,
+            Refusal::TargetRange => 5,
+            Refusal::SpeechThreshold => 6,
+            Refusal::PredictorWindows => 7,
+            Refusal::InputVolume => 8,
+            Refusal::FrameSize => 9,
+            Refusal::EstimateRange => 10,
+            Refusal::RingRange => 11,
+            Refusal::FrameLine => 12,
+            Refusal::PredictorCapacity => 14,
+            Refusal::PredictorLevels => 15,
+            Refusal::FrameLimits => 18,
+            Refusal::ClassroomProfile => 19,
+            Refusal::VolumeCount => 20,
+        }
     }
 }

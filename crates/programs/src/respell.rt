@@ -1,111 +1,72 @@
 // One spelling of frame lines: the files that are named, or standard input, to standard output, each line answered with its base spelling or with its refusal.
-ghost use Rattle.std.specs.Prelude.{◌≡◌, ◌++◌, ◌+◌, ◌≤◌, length};
+ghost use Rattle.std.specs.Prelude.{◌≡◌, ◌++◌, ◌≤◌, length, IsOk};
 ghost use Rattle.command_line.specs.Free.{Free};
 ghost use Rattle.frame_lines.specs.Stream.{cut, begun};
 ghost use Rattle.frame_lines.specs.Feeds.{kept, GoodBeginning};
 ghost use Rattle.frame_lines.specs.Respelled.{longest_respelling};
-ghost use Rattle.programs.specs.declared.going.Going.TheVariants.{On};
 
-use crate::going::{Going, going_on, next_piece};
+use crate::answering::{Answering, run};
 use command_line::ending::{Ending, status};
-use command_line::input::Input;
-use command_line::output::write;
-use command_line::start::{Start, options};
+use command_line::output::Console;
 use frame_lines::lines::Begun;
 use frame_lines::respelling::{LONGEST_RESPELLING, feed};
 use std::io;
 use std::io::Print;
 use std::rt::{Env, Files};
 
-// So much is read at once, if so much is there.
-const PIECE: usize = 65536;
-
 // Room for the answers to a piece of usual lines; more is written in parts.
 const ANSWERS: usize = 131072;
 
-// What is kept of a line that has begun, after a turn, and whether to go on.
-#[derive(Clone, Copy)]
-struct Turn {
-    line: Begun,
-    going: Going,
-}
+const HELP: &[u8] =
+    b"usage: respell [FILE..]\nWrites each frame line of the files in its base spelling: capitals, several blanks and blanks at the ends are forgiven.\nWithout a file, or where it is -, standard input is read.\n  --help     this text\n  --version  the version, and what it was proved with\nThe exit status is 0, or 1 where a read or a write failed, or 2 at an unknown option.\n";
 
-fn write_answers<R: Print, E: Print>(rt: &R, errors: &E, answers: &[u8]) -> Going {
-    going_on(write(rt, errors, b"respell", answers))
-}
+// What is kept of a line that has begun.
+impl Answering for Begun {
+    ghost good = { λ line. GoodBeginning line };
 
-// Answers all lines that end in a piece. What was put is written where another answer may have no room, and at the end. A write that fails ends the program.
-fn answered<R: Print, E: Print>(
-    rt: &R,
-    errors: &E,
-    line: Begun,
-    piece: &[u8],
-    out: &mut [u8],
-) -> Turn
-    requires { GoodBeginning line × (longest_respelling ≤ length out.old) }
-    ensures { GoodBeginning result.line × (result.going ≡ On → kept result.line ≡ cut (begun (kept line ++ piece.now))) }
-{
-    let mut line = line;
-    let mut used = 0;
-    let mut written = 0;
-    while used < piece.len() {
-        let fed = feed(line, &piece[used..], &mut out[written..]);
-        line = fed.begun;
-        used += fed.used;
-        written += fed.written;
-        if out.len() - written < LONGEST_RESPELLING {
-            let going = write_answers(rt, errors, &out[..written]);
-            if let Going::Over(ending) = going {
-                return Turn {
-                    line,
-                    going: Going::Over(ending),
-                };
+    ghost room = { longest_respelling };
+
+    fn has_begun(&self) -> bool {
+        self.length > 0
+    }
+
+    // What was put is written where another answer may have no room, and at the end.
+    fn answer<R: Print, E: Print>(
+        &mut self,
+        console: &Console<R, E>,
+        piece: &[u8],
+        out: &mut [u8],
+    ) -> Ending
+        requires { GoodBeginning self.old × (longest_respelling ≤ length out.old) }
+        ensures good { GoodBeginning self.new }
+        ensures goes_on { IsOk result → kept self.new ≡ cut (begun (kept self.old ++ piece.now)) }
+    {
+        let mut rest = piece;
+        let mut written = 0;
+        while !rest.is_empty() {
+            let fed = feed(*self, rest, &mut out[written..]);
+            *self = fed.begun;
+            rest = &rest[fed.used..];
+            written += fed.written;
+            if out.len() - written < LONGEST_RESPELLING {
+                console.write(&out[..written])?;
+                written = 0;
             }
-            written = 0;
         }
+        console.write(&out[..written])
     }
-    Turn {
-        line,
-        going: write_answers(rt, errors, &out[..written]),
-    }
-}
-
-// A loop must be shown to end: no input has so many pieces.
-fn respell_all<R: Env + Files + io::Input + Print, E: Print>(rt: &R, errors: &E) -> Ending {
-    let mut piece = [0u8; PIECE];
-    let mut out = [0u8; ANSWERS];
-    let mut line = Begun::new();
-    let mut input = Input::<R::File>::new();
-    for _ in 0..u64::MAX {
-        let next = next_piece(rt, errors, input, b"respell", line.length > 0, &mut piece);
-        input = next.input;
-        let n = next.count;
-        let reading = next.going;
-        if let Going::Over(ending) = reading {
-            return ending;
-        }
-        let t = answered(rt, errors, line, &piece[..n], &mut out);
-        line = t.line;
-        let going = t.going;
-        if let Going::Over(ending) = going {
-            return ending;
-        }
-    }
-    Ending::Failed
 }
 
 // Its exit status. Standard output is the runtime's, and `errors` standard error.
-pub fn respell<R: Env + Files + io::Input + Print, E: Print>(rt: &R, errors: &E) -> i32
+pub fn respell<R: Env + Files + io::Input + Print, E: Print>(rt: &R, errors: &E) -> u8
     ensures { Free result }
 {
-    let start = options(
+    let console = Console {
         rt,
         errors,
-        b"respell",
-        b"usage: respell [FILE..]\nWrites each frame line of the files in its base spelling: capitals, several blanks and blanks at the ends are forgiven.\nWithout a file, or where it is -, standard input is read.\n  --help     this text\n  --version  the version, and what it was proved with\nThe exit status is 0, or 1 where a read or a write failed, or 2 at an unknown option.\n",
-    );
-    match start {
-        Start::Over(ending) => status(ending),
-        Start::Run => status(respell_all(rt, errors)),
-    }
+        program: b"respell",
+    };
+    let mut line = Begun::new();
+    let mut out = [0u8; ANSWERS];
+    status(run(&console, HELP, &mut line, &mut out))
 }

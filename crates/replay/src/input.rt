@@ -1,100 +1,68 @@
 // The lines of standard input, one after another, by way of a space that has room for the longest.
-ghost use Rattle.std.specs.Prelude.{◌≤◌, ◌<◌, length};
+ghost use Rattle.std.specs.Prelude.{◌+◌, ◌≤◌, ◌<◌, IfSome};
 
+use crate::line::Line;
 use command_line::input::read_full;
 
-// The place of a line in the space, without its line feed, and how many bytes there are read. Not whole: the input has ended before the line has.
-#[derive(Clone, Copy)]
-pub struct Line {
-    pub start: usize,
-    pub end: usize,
-    pub held: usize,
-    pub whole: bool,
+// What is read: the bytes of the space up to `held`, of which those from `start` on are still to be answered.
+#[derive(Drop)]
+pub struct Lines {
+    space: [u8; 262144],
+    start: usize,
+    held: usize,
+    ghost begun: { start ≤ held },
+    ghost fits: { held ≤ 262144 },
 }
 
-// Before the first line nothing is read.
-pub fn start() -> Line
-    ensures { result.held ≤ 0 }
-{
-    Line {
-        start: 0,
-        end: 0,
-        held: 0,
-        whole: false,
-    }
-}
-
-// Where the line that starts at `at` ends: at a line feed, or at the end of what is read.
-fn line_end(s: &[u8], at: usize, held: usize) -> usize
-    requires { (at ≤ held) × (held ≤ length s.now) }
-    ensures { (at ≤ result) × (result ≤ held) }
-{
-    let mut i = at;
-    while i < held {
-        if s[i] == b'\n' {
-            return i;
+impl Lines {
+    // Nothing is read yet.
+    pub fn new() -> Lines {
+        Lines {
+            space: [0; 262144],
+            start: 0,
+            held: 0,
         }
-        i += 1;
     }
-    i
-}
 
-// Where the next line starts: behind the line feed, if there is one.
-fn after(line: Line) -> usize
-    ensures { result ≤ line.held }
-{
-    if line.end < line.held {
-        line.end + 1
-    } else {
-        line.held
+    // How long the next line is, if its line feed is read.
+    fn length_of_next(&self) -> Option<usize>
+        ensures { IfSome result (λ length. self.now.start + length < self.now.held) }
+    {
+        self.space[self.start..self.held]
+            .iter()
+            .position(|c| *c == b'\n')
     }
-}
 
-// The bytes from `at` to `held` are moved to the front; how many they are.
-fn moved(space: &mut [u8], at: usize, held: usize) -> usize
-    requires { (at ≤ held) × (held ≤ length space.old) }
-    ensures { result ≤ length space.new }
-{
-    let count = held - at;
-    for i in 0..count {
-        let from = at + i;
-        space[i] = space[from];
+    // The bytes that are left of an unfinished line are moved to the front, and more are read behind them.
+    fn read_on<R: Input>(&mut self, rt: &R) {
+        let left = self.held - self.start;
+        self.space.copy_within(self.start..self.held, 0);
+        self.start = 0;
+        self.held = left;
+        let n = read_full(rt, &mut self.space[left..]);
+        self.held = left + n;
     }
-    count
-}
 
-// Reads on behind the bytes that are left of an unfinished line, which then starts the space.
-fn read_on<R: Input>(rt: &R, space: &mut [u8], left: usize) -> Line
-    requires { left ≤ length space.old }
-    ensures { (result.start ≤ result.end) × (result.end ≤ result.held) × (result.held ≤ length space.new) }
-{
-    let n = read_full(rt, &mut space[left..]);
-    let held = left + n;
-    let end = line_end(space, 0, held);
-    Line {
-        start: 0,
-        end,
-        held,
-        whole: end < held,
+    // The same, reading on for it.
+    fn length_of_coming<R: Input>(&mut self, rt: &R) -> Option<usize>
+        ensures { IfSome result (λ length. self.new.start + length < self.new.held) }
+    {
+        let length = self.length_of_next();
+        if length.is_some() {
+            return length;
+        }
+        self.read_on(rt);
+        self.length_of_next()
     }
-}
 
-// The line after one.
-pub fn next<R: Input>(rt: &R, space: &mut [u8], line: Line) -> Line
-    requires { line.held ≤ length space.old }
-    ensures { (result.start ≤ result.end) × (result.end ≤ result.held) × (result.held ≤ length space.new) }
-{
-    let held = line.held;
-    let start = after(line);
-    let end = line_end(space, start, held);
-    if end < held {
-        return Line {
-            start,
-            end,
-            held,
-            whole: true,
-        };
+    // The next line, without its line feed; nothing where the input ends before it does.
+    pub fn next<R: Input>(&mut self, rt: &R) -> Option<Line<'_>> {
+        let length = self.length_of_coming(rt)?;
+        let start = self.start;
+        let end = start + length;
+        self.start = end + 1;
+        Some(Line {
+            bytes: &self.space[start..end],
+        })
     }
-    let left = moved(space, start, held);
-    read_on(rt, space, left)
 }

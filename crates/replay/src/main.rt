@@ -20,41 +20,40 @@
 //     V                                 from here on, all of the controller's state after each of its calls
 //     # name                            what the line before shows; no answer
 //
-// A ring, a predictor and a controller are kept from line to line, each by itself. Every line is handed to all of them, and one answers it. Where a
+// A ring, a predictor and a controller are kept from line to line, each by itself, and each line is handed to the one that answers it. Where a
 // record is shown it is `mean:peak:count`, the count of clipped samples in decimal.
 #![tactic(auto)]
 
 mod controller;
 mod input;
+mod line;
 mod predictor;
 mod print;
 mod ring;
 mod state;
-mod text;
 mod values;
 
 // A loop must be shown to end: no input has so many lines.
 fn main(rt: HostRuntime) {
-    let mut space = [0u8; 262144];
+    let mut lines = input::Lines::new();
     let mut ring = ring::fresh();
     let mut predictor = predictor::fresh();
     let mut controller = controller::fresh();
-    let mut full = false;
-    let mut line = input::start();
-    for turn in 0..u64::MAX {
-        line = input::next(&rt, &mut space, line);
-        if !line.whole {
+    for _ in 0..u64::MAX {
+        let Some(line) = lines.next(&rt) else {
             break;
+        };
+        print::asked(&rt, line);
+        match line.letter() {
+            b'S' | b'Q' | b'w' | b'a' | b'd' | b'h' | b'L' => values::answer(&rt, line),
+            b'G' | b'g' | b'z' | b'm' => ring = ring.answer(&rt, line),
+            b'P' | b'F' | b'X' | b'E' => predictor = predictor.answer(&rt, line),
+            b'N' | b'K' | b'O' | b'A' | b'B' | b'W' | b'R' | b'I' | b'C' | b'D' | b'V' =>
+                controller = controller.answer(&rt, line),
+            // a name, and an empty line
+            b'#' | 0 => {}
+            _ => print::show(&rt, "unknown"),
         }
-        let start = line.start;
-        let end = line.end;
-        let s = &space[start..end];
-        let letter = print::asked(&rt, s);
-        full = numbers::truth::either(full, values::asks_state(letter, s));
-        values::answer(&rt, letter, s);
-        ring = ring::answer(&rt, letter, ring, s);
-        predictor = predictor::answer(&rt, letter, predictor, s);
-        controller = controller::answer(&rt, letter, controller, s, full);
-        print::line_feed(&rt);
+        print::show(&rt, "\n");
     }
 }

@@ -1,14 +1,21 @@
 // The lines of the predictor.
 ghost use Rattle.clipping_predictor.specs.Predictor.{Good};
 
-use crate::{print, state, text};
+use crate::line::Line;
+use crate::state::Records;
+use crate::{print, state};
 use clipping_predictor::ClippingPredictor;
 use clipping_predictor::settings::{ClippingPredictorConfig, ClippingPredictorMode};
 
+// The predictor as it is kept from line to line, in order.
+#[derive(Clone, Copy)]
+pub struct Kept {
+    pub predictor: ClippingPredictor,
+    ghost good: { Good predictor },
+}
+
 // A predictor that is off.
-pub fn fresh() -> ClippingPredictor
-    ensures { Good result }
-{
+pub fn fresh() -> Kept {
     let config = ClippingPredictorConfig {
         enabled: false,
         mode: ClippingPredictorMode::ClippingEventPrediction,
@@ -19,9 +26,12 @@ pub fn fresh() -> ClippingPredictor
         crest_factor_margin: 0,
     };
     let created = clipping_predictor::create_clipping_predictor(1, config);
-    created.predictor
+    Kept {
+        predictor: created.predictor,
+    }
 }
 
+// A function, since no From can be written here: neither type is of this crate.
 fn mode(n: i32) -> ClippingPredictorMode {
     match n {
         0 => ClippingPredictorMode::ClippingEventPrediction,
@@ -31,110 +41,77 @@ fn mode(n: i32) -> ClippingPredictorMode {
 }
 
 // The mode stands in the first of six fields.
-pub fn config(s: &[u8], enabled: bool, first: u8) -> ClippingPredictorConfig {
-    let field = first as usize;
+pub fn config(line: Line, enabled: bool, first: u8) -> ClippingPredictorConfig {
+    let field = usize::from(first);
     ClippingPredictorConfig {
         enabled,
-        mode: mode(text::number(s, field)),
-        window_length: text::number(s, field + 1),
-        reference_window_length: text::number(s, field + 2),
-        reference_window_delay: text::number(s, field + 3),
-        clipping_threshold: text::number(s, field + 4),
-        crest_factor_margin: text::number(s, field + 5),
+        mode: mode(line.number(field)),
+        window_length: line.number(field + 1),
+        reference_window_length: line.number(field + 2),
+        reference_window_delay: line.number(field + 3),
+        clipping_threshold: line.number(field + 4),
+        crest_factor_margin: line.number(field + 5),
     }
 }
 
-fn print_made<R: Print>(rt: &R, enabled: bool) {
-    if enabled {
+impl Kept {
+    // A refused making leaves the predictor that was there.
+    fn made<R: Print>(self, rt: &R, channels: i32, config: ClippingPredictorConfig) -> Kept {
+        let created = clipping_predictor::create_clipping_predictor(channels, config);
+        let answer = created.answer;
+        if !print::accepted(rt, answer) {
+            return self;
+        }
+        let predictor = created.predictor;
+        let enabled = predictor.settings.enabled;
+        print::show(rt, if enabled { "ok" } else { "off" });
+        Kept { predictor }
+    }
+
+    // A refused frame changes nothing. Of an accepted one the rings are shown that it entered.
+    fn analyzed<R: Print>(self, rt: &R, line: Line) -> Kept {
+        let mut space = [0.0f32; 3840];
+        let frame = line.floats(0, &mut space);
+        let samples = frame.len() / self.predictor.channels;
+        let done = self.predictor.analyze(samples, frame);
+        let predictor = done.predictor;
+        let answer = done.answer;
+        if print::accepted(rt, answer) {
+            print::ok(rt);
+            state::print_rings(rt, predictor, " ", Records::Newest, "");
+        }
+        Kept { predictor }
+    }
+
+    fn emptied<R: Print>(self, rt: &R) -> Kept {
         print::ok(rt);
-    } else {
-        print::text(rt, b"off");
+        Kept {
+            predictor: self.predictor.reset(),
+        }
     }
-}
 
-// A refused making leaves the predictor that was there.
-fn made<R: Print>(
-    rt: &R,
-    old: ClippingPredictor,
-    channels: i32,
-    config: ClippingPredictorConfig,
-) -> ClippingPredictor
-    requires { Good old }
-    ensures { Good result }
-{
-    let created = clipping_predictor::create_clipping_predictor(channels, config);
-    let answer = created.answer;
-    if !print::accepted(rt, answer) {
-        return old;
-    }
-    let predictor = created.predictor;
-    print_made(rt, predictor.settings.enabled);
-    predictor
-}
-
-// A refused frame changes nothing. Of an accepted one the rings are shown that it entered.
-fn analyzed<R: Print>(rt: &R, predictor: ClippingPredictor, s: &[u8]) -> ClippingPredictor
-    requires { Good predictor }
-    ensures { Good result }
-{
-    let mut space = [0.0f32; 3840];
-    let n = text::floats(s, 0, &mut space);
-    let samples = n / predictor.channels;
-    let done = predictor.analyze(samples, &space[..n]);
-    let next = done.predictor;
-    let answer = done.answer;
-    if print::accepted(rt, answer) {
-        print::ok(rt);
-        state::print_rings(rt, next, b" ", false, b"");
-    }
-    next
-}
-
-fn emptied<R: Print>(rt: &R, predictor: ClippingPredictor) -> ClippingPredictor
-    requires { Good predictor }
-    ensures { Good result }
-{
-    print::ok(rt);
-    predictor.reset()
-}
-
-fn estimated<R: Print>(rt: &R, predictor: ClippingPredictor, s: &[u8]) -> ClippingPredictor
-    requires { Good predictor }
-    ensures { Good result }
-{
-    print::estimate(
-        rt,
-        predictor.estimate_clipped_level_step(
-            text::number(s, 0),
-            text::number(s, 1),
-            text::number(s, 2),
-            text::number(s, 3),
-            text::number(s, 4),
-        ),
-    );
-    predictor
-}
-
-// The answer to a line, by its first letter.
-pub fn answer<R: Print>(
-    rt: &R,
-    letter: u8,
-    predictor: ClippingPredictor,
-    s: &[u8],
-) -> ClippingPredictor
-    requires { Good predictor }
-    ensures { Good result }
-{
-    match letter {
-        b'P' => made(
+    fn estimated<R: Print>(self, rt: &R, line: Line) -> Kept {
+        print::estimate(
             rt,
-            predictor,
-            text::number(s, 0),
-            config(s, text::number(s, 1) == 1, 2),
-        ),
-        b'F' => analyzed(rt, predictor, s),
-        b'X' => emptied(rt, predictor),
-        b'E' => estimated(rt, predictor, s),
-        _ => predictor,
+            self.predictor.estimate_clipped_level_step(
+                line.number(0),
+                line.number(1),
+                line.number(2),
+                line.number(3),
+                line.number(4),
+            ),
+        );
+        self
+    }
+
+    // The answer to a line, by its letter.
+    pub fn answer<R: Print>(self, rt: &R, line: Line) -> Kept {
+        match line.letter() {
+            b'P' => self.made(rt, line.number(0), config(line, line.number(1) == 1, 2)),
+            b'F' => self.analyzed(rt, line),
+            b'X' => self.emptied(rt),
+            b'E' => self.estimated(rt, line),
+            _ => self,
+        }
     }
 }

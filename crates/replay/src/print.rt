@@ -1,130 +1,123 @@
 // Writing answers to standard output. Where that fails there is nobody to tell.
+use crate::line::Line;
 use clipping_predictor::Estimate;
-use clipping_predictor_level_buffer::Metrics;
 use clipping_predictor_level_buffer::level::Level;
-use input_volume_controller::{Analysis, Recommendation};
-use levels::decibels::Decibels;
-use numbers::refusal::{Outcome, Refusal};
+use numbers::refusal::Refusal;
+use std::fmt;
 
-pub fn text<R: Print>(rt: &R, s: &[u8]) {
-    let _ = rt.write_all(s);
+// A float, by its bits.
+#[derive(Clone, Copy)]
+pub struct Bits(pub f32);
+
+impl fmt::Display for Bits {
+    fn fmt<W: fmt::Write>(&self, f: &mut fmt::Formatter<W>) -> fmt::Result {
+        let bits = levels::bits::to_bits(self.0);
+        write!(f, "{bits:08x}")
+    }
 }
 
-// What a line asks, and its letter.
-pub fn asked<R: Print>(rt: &R, line: &[u8]) -> u8 {
-    text(rt, line);
-    text(rt, b" => ");
-    crate::text::letter(line)
+// Mean square, peak and clipped samples, with a text between two of them.
+#[derive(Clone, Copy)]
+pub struct Parts<'a>(pub Level, pub &'a str);
+
+impl<'a> fmt::Display for Parts<'a> {
+    fn fmt<W: fmt::Write>(&self, f: &mut fmt::Formatter<W>) -> fmt::Result {
+        let level = self.0;
+        let between = self.1;
+        let average = Bits(level.average);
+        let max = Bits(level.max);
+        let clipped = level.clipped;
+        write!(f, "{average}{between}{max}{between}{clipped}")
+    }
 }
 
-pub fn line_feed<R: Print>(rt: &R) {
-    text(rt, b"\n");
+pub fn show<R: Print, D: fmt::Display + Drop>(rt: &R, value: D) {
+    let _ = rt.print(value);
 }
 
-pub fn count<R: Print>(rt: &R, n: u64) {
-    let _ = print!(rt; "{n}");
+// What a line asks.
+pub fn asked<R: Print>(rt: &R, line: Line) {
+    let _ = rt.write_all(line.bytes);
+    show(rt, " => ");
 }
 
 pub fn number<R: Print>(rt: &R, x: i32) {
-    if x < 0 {
-        text(rt, b"-");
-    }
-    count(rt, numbers::sign::size(x) as u64);
+    show(rt, x);
 }
 
 pub fn none<R: Print>(rt: &R) {
-    text(rt, b"none");
+    show(rt, "none");
 }
 
 pub fn ok<R: Print>(rt: &R) {
-    text(rt, b"ok");
+    show(rt, "ok");
 }
 
 pub fn refusal<R: Print>(rt: &R, cause: Refusal) {
-    text(rt, b"! ");
-    count(rt, numbers::refusal::number(cause) as u64);
-}
-
-pub fn float<R: Print>(rt: &R, x: f32) {
-    let bits = levels::bits::to_bits(x);
-    let _ = print!(rt; "{bits:08x}");
-}
-
-pub fn decibels<R: Print>(rt: &R, d: Decibels) {
-    match d {
-        Decibels::Finite(x) => number(rt, x),
-        Decibels::PlusInfinity => text(rt, b"inf"),
-        Decibels::MinusInfinity => text(rt, b"-inf"),
-        Decibels::NotANumber => text(rt, b"nan"),
-    }
+    let _ = print!(rt; "! {}", cause.number());
 }
 
 // A refusal is written; whether there is more to say.
-pub fn accepted<R: Print>(rt: &R, answer: Outcome) -> bool {
+pub fn accepted<R: Print>(rt: &R, answer: Result<(), Refusal>) -> bool {
     match answer {
-        Outcome::Refused(cause) => {
+        Err(cause) => {
             refusal(rt, cause);
             false
         }
-        Outcome::Accepted => true,
+        Ok(()) => true,
     }
 }
 
 fn triple<R: Print>(rt: &R, level: Level) {
-    float(rt, level.average);
-    text(rt, b" ");
-    float(rt, level.max);
-    text(rt, b" ");
-    count(rt, level.clipped as u64);
+    show(rt, Parts(level, " "));
 }
 
-pub fn metrics<R: Print>(rt: &R, metrics: Metrics) {
+pub fn metrics<R: Print>(rt: &R, metrics: Result<Option<Level>, Refusal>) {
     match metrics {
-        Metrics::Refused(cause) => refusal(rt, cause),
-        Metrics::Missing => none(rt),
-        Metrics::Found(level) => triple(rt, level),
+        Err(cause) => refusal(rt, cause),
+        Ok(None) => none(rt),
+        Ok(Some(level)) => triple(rt, level),
     }
 }
 
 // A mark stands behind the answer.
 fn near<R: Print>(rt: &R, near: bool) {
     if near {
-        text(rt, b" n");
+        show(rt, " n");
     }
 }
 
-pub fn estimate<R: Print>(rt: &R, estimate: Estimate) {
-    match estimate {
-        Estimate::Refused(cause) => refusal(rt, cause),
-        Estimate::Nothing(marked) => {
-            none(rt);
-            near(rt, marked);
-        }
-        Estimate::Drop(drop, marked) => {
-            number(rt, drop);
-            near(rt, marked);
-        }
-    }
-}
-
-pub fn analysis<R: Print>(rt: &R, answer: Analysis) {
+pub fn estimate<R: Print>(rt: &R, answer: Result<Estimate, Refusal>) {
     match answer {
-        Analysis::Refused(cause) => refusal(rt, cause),
-        Analysis::Accepted(_) => ok(rt),
+        Err(cause) => refusal(rt, cause),
+        Ok(estimate) => {
+            match estimate.drop {
+                None => none(rt),
+                Some(drop) => number(rt, drop),
+            }
+            near(rt, estimate.near);
+        }
+    }
+}
+
+pub fn analysis<R: Print>(rt: &R, answer: Result<bool, Refusal>) {
+    match answer {
+        Err(cause) => refusal(rt, cause),
+        Ok(_) => ok(rt),
     }
 }
 
 // The mark of a frame.
-pub fn mark<R: Print>(rt: &R, answer: Analysis) {
+pub fn mark<R: Print>(rt: &R, answer: Result<bool, Refusal>) {
     match answer {
-        Analysis::Refused(_) => near(rt, false),
-        Analysis::Accepted(marked) => near(rt, marked),
+        Err(_) => near(rt, false),
+        Ok(marked) => near(rt, marked),
     }
 }
 
-pub fn recommendation<R: Print>(rt: &R, answer: Recommendation) {
+pub fn recommendation<R: Print>(rt: &R, answer: Option<i32>) {
     match answer {
-        Recommendation::Nothing => none(rt),
-        Recommendation::Volume(v) => number(rt, v),
+        None => none(rt),
+        Some(v) => number(rt, v),
     }
 }

@@ -4,6 +4,5 @@
 use std::process::ExitCode;
 
 fn main(rt: HostRuntime) -> ExitCode {
-    let status = programs::respell::respell(&rt, &rt.stderr());
-    u8::try_from(status).map_or(ExitCode::FAILURE, ExitCode::from)
+    ExitCode::from(programs::respell::respell(&rt, &rt.stderr()))
 }

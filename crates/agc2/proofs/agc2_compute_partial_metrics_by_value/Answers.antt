@@ -1,7 +1,7 @@
 -- `agc2_compute_partial_metrics_by_value` meets its contract. Assumes nothing.
 use mathlib.Core.Path.{ap, ◌∙◌}
 use Rattle.numbers.proofs.Signs.{again}
-use Rattle.clipping_predictor_level_buffer.specs.Metrics.{metrics_says}
+use Rattle.numbers.specs.Said.{said}
 use Rattle.input_volume_controller.specs.Controller.{view_of}
 use Rattle.input_volume_controller.specs.ChannelMetrics.{channel_metrics}
 use Rattle.agc2.specs.Answers.{metrics_of}
@@ -14,4 +14,4 @@ compute_partial_metrics-requires c = in_order c.whole.ensures c.requires
 pub returns : goal.returns
 returns c =
     c.metrics_of.ensures ∙ ap metrics_of (c.compute_partial_metrics.ensures
-    ∙ (λ i. metrics_says (channel_metrics (view_of (c.whole.ensures i)).predictor c.args.channel (again c.args.delay c.ranges.delay.sfits i) (again c.args.num_items c.ranges.num_items.sfits i))))
+    ∙ (λ i. said (channel_metrics (view_of (c.whole.ensures i)).predictor c.args.channel (again c.args.delay c.ranges.delay.sfits i) (again c.args.num_items c.ranges.num_items.sfits i))))

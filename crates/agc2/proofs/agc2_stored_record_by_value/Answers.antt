@@ -2,7 +2,7 @@
 use mathlib.Core.Path.{ap, ◌∙◌}
 use mathlib.Core.List.{[]}
 use lib.ListN.{get_or}
-use Rattle.clipping_predictor_level_buffer.specs.Ring.{stored_says, stored_at}
+use Rattle.clipping_predictor_level_buffer.specs.Ring.{stored_at}
 use Rattle.input_volume_controller.specs.declared.InputVolumeController.{InputVolumeController}
 use Rattle.input_volume_controller.specs.Controller.{view_of}
 use Rattle.agc2.specs.Answers.{record_of}
@@ -14,4 +14,4 @@ stored_record-requires c = in_order c.whole.ensures c.requires
 
 pub returns : goal.returns
 returns c =
-    c.record_of.ensures ∙ ap record_of (c.stored_record.ensures ∙ ap (λ (x : InputVolumeController). stored_says (stored_at (get_or (view_of x).predictor.rings c.args.channel []) c.args.i)) c.whole.ensures)
+    c.record_of.ensures ∙ ap record_of (c.stored_record.ensures ∙ ap (λ (x : InputVolumeController). stored_at (get_or (view_of x).predictor.rings c.args.channel []) c.args.i) c.whole.ensures)

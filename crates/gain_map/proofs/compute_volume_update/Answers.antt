@@ -1,79 +1,64 @@
 -- `gain_map::compute_volume_update` meets its contract: each return by the answers that lead there. Assumes nothing.
-use mathlib.Core.Path.{◌≡◌, sym, ap, ◌∙◌}
+use mathlib.Core.Path.{◌≡◌, ap, ◌∙◌}
 use native.Mathlib.Omega.{arith}
-use borrow.Author.Rules.{rules}
-use lib.IntN.{pos}
+use lib.IntN.{ℤ, pos}
 use mir.Syntax.{w32}
+use mir.Val.{SFits}
 use mir.ValLaws.{to_z-of_z, to_z_pos}
-use Rattle.numbers.specs.declared.natural.Natural.TheVariants.{Number}
-use Rattle.numbers.specs.Natural.{within_of}
+use Rattle.std.specs.Prelude.{Ok}
+use Rattle.numbers.proofs.Asked.{asked_none, asked_some, handed_on}
 use Rattle.numbers.proofs.Signs.{read}
 use Rattle.numbers.proofs.Ranges.{told}
-use Rattle.gain_map.specs.declared.VolumeUpdate.TheVariants.{Volume}
-use Rattle.gain_map.specs.VolumeUpdate.{update_says, volume_update_of}
+use Rattle.numbers.specs.Said.{said}
+use Rattle.gain_map.specs.VolumeUpdate.{volume_update_of}
 use Rattle.gain_map.proofs.Paths.{no_minimum, no_volume, no_maximum, above_maximum, steps_to}
 use Rattle.gain_map.proofs.compute_volume_update.Goals as goal
-use Rattle.gain_map.proofs.compute_volume_update.Goals.{In-Number, In-Number-here, In-Number-high, Start}
-
--- ---- the three volumes, where they lie in their range, and what was known before each
-
-low-is : (c : In-Number) → within_of 0 255 (read c.args.min_input_volume) ≡ Number c.in-Number.min
-low-is c = sym c.within-low.ensures ∙ c.in-Number.is
-
-abbrev low_of : In-Number-here → In-Number
-low_of c = c.before.before
-
-here-is : (c : In-Number-here) → within_of 0 255 (read (low_of c).args.input_volume) ≡ Number c.in-Number-here.volume
-here-is c = sym c.within-here.ensures ∙ c.in-Number-here.is
-
-abbrev here_of : In-Number-high → In-Number-here
-here_of c = c.before.before
-
-high_is : (c : In-Number-high) → within_of 0 255 (read (low_of (here_of c)).args.max_input_volume) ≡ Number c.in-Number-high.max
-high_is c = sym c.within-high.ensures ∙ c.in-Number-high.is
 
 -- the step for the numbers as the machine reads them back
-back : (c : Start)
-    → volume_update_of (read c.args.gain_error_db) (read c.args.input_volume) (read c.args.min_input_volume) (read c.args.max_input_volume)
-    ≡ volume_update_of c.args.gain_error_db c.args.input_volume c.args.min_input_volume c.args.max_input_volume
-back c = λ i. volume_update_of (to_z-of_z w32 _ c.ranges.gain_error_db i) (to_z-of_z w32 _ c.ranges.input_volume i) (to_z-of_z w32 _ c.ranges.min_input_volume i) (to_z-of_z w32 _ c.ranges.max_input_volume i)
+back : (g v n x : ℤ) → SFits w32 g → SFits w32 v → SFits w32 n → SFits w32 x → volume_update_of (read g) (read v) (read n) (read x) ≡ volume_update_of g v n x
+back g v n x a b d e = λ i. volume_update_of (to_z-of_z w32 g a i) (to_z-of_z w32 v b i) (to_z-of_z w32 n d i) (to_z-of_z w32 x e i)
 
--- ---- the needs
+pub returns-in_err-min : goal.returns-in_err-min
+returns-in_err-min c =
+    ap said
+    (handed_on _ _ _ _ c.from_residual.ensures.1 c.ok_or.ensures.value c.in_err-min.was ∙ no_minimum _ _ _ _ (asked_none _ _ _ _ c.within.ensures c.ok_or.ensures.value c.in_err-min.was)
+    ∙ back _ _ _ _ c.ranges.gain_error_db c.ranges.input_volume c.ranges.min_input_volume c.ranges.max_input_volume)
 
-pub returns-in_default : goal.returns-in_default
-returns-in_default c = ap update_says (no_minimum _ _ _ _ (sym c.within-low.ensures ∙ c.in_default.is) ∙ back c.before.before)
+pub returns-in_err-volume : goal.returns-in_err-volume
+returns-in_err-volume c =
+    ap said
+    (handed_on _ _ _ _ c.from_residual-in_err-volume.ensures.1 c.ok_or-2.ensures.value c.in_err-volume.was
+    ∙ no_volume _ _ _ _ _ (asked_some _ _ _ _ c.within.ensures c.ok_or.ensures.value c.in_ok-min.was) (asked_none _ _ _ _ c.within-2.ensures c.ok_or-2.ensures.value c.in_err-volume.was)
+    ∙ back _ _ _ _ c.ranges.gain_error_db c.ranges.input_volume c.ranges.min_input_volume c.ranges.max_input_volume)
 
-pub returns-in_default-here : goal.returns-in_default-here
-returns-in_default-here c =
-    ap update_says (no_volume _ _ _ _ _ (low-is c.before.before) (sym c.within-here.ensures ∙ c.in_default-here.is) ∙ back c.before.before.before.before)
-
-pub returns-in_default-high : goal.returns-in_default-high
-returns-in_default-high c =
-    let l = low_of c.before.before in
-    ap update_says (no_maximum _ _ _ _ _ (low-is l) _ (here-is c.before.before) (sym c.within-high.ensures ∙ c.in_default-high.is) ∙ back l.before.before)
+pub returns-in_err-max : goal.returns-in_err-max
+returns-in_err-max c =
+    ap said
+    (handed_on _ _ _ _ c.from_residual-in_err-max.ensures.1 c.ok_or-3.ensures.value c.in_err-max.was
+    ∙ no_maximum _ _ _ _ _ (asked_some _ _ _ _ c.within.ensures c.ok_or.ensures.value c.in_ok-min.was) _ (asked_some _ _ _ _ c.within-2.ensures c.ok_or-2.ensures.value c.in_ok-volume.was)
+    (asked_none _ _ _ _ c.within-3.ensures c.ok_or-3.ensures.value c.in_err-max.was)
+    ∙ back _ _ _ _ c.ranges.gain_error_db c.ranges.input_volume c.ranges.min_input_volume c.ranges.max_input_volume)
 
 pub returns-then-max-volume : goal.returns-then-max-volume
 returns-then-max-volume c =
-    let e = here_of c.before in
-    let l = low_of e in
-    ap update_says (above_maximum _ _ _ _ _ (low-is l) _ (here-is e) _ (high_is c.before) c.if-max-volume.true ∙ back l.before.before)
+    ap said
+    (above_maximum _ _ _ _ _ (asked_some _ _ _ _ c.within.ensures c.ok_or.ensures.value c.in_ok-min.was) _ (asked_some _ _ _ _ c.within-2.ensures c.ok_or-2.ensures.value c.in_ok-volume.was) _
+    (asked_some _ _ _ _ c.within-3.ensures c.ok_or-3.ensures.value c.in_ok-max.was) c.if-max-volume.true
+    ∙ back _ _ _ _ c.ranges.gain_error_db c.ranges.input_volume c.ranges.min_input_volume c.ranges.max_input_volume)
 
 pub overflow_cast-volume : goal.overflow_cast-volume
-overflow_cast-volume c = omega (arith, told _ _ _ _ (here-is (here_of c.before)))
+overflow_cast-volume c = omega (arith, told _ _ _ _ (asked_some _ _ _ _ c.within-2.ensures c.ok_or-2.ensures.value c.in_ok-volume.was))
 
 pub overflow_cast-min : goal.overflow_cast-min
-overflow_cast-min c = omega (arith, told _ _ _ _ (low-is (low_of (here_of c.before))))
+overflow_cast-min c = omega (arith, told _ _ _ _ (asked_some _ _ _ _ c.within.ensures c.ok_or.ensures.value c.in_ok-min.was))
 
 pub overflow_cast-max : goal.overflow_cast-max
-overflow_cast-max c = omega (arith, told _ _ _ _ (high_is c.before))
-
-pub overflow_cast-result : goal.overflow_cast-result
-overflow_cast-result c = search rules
+overflow_cast-max c = omega (arith, told _ _ _ _ (asked_some _ _ _ _ c.within-3.ensures c.ok_or-3.ensures.value c.in_ok-max.was))
 
 pub returns : goal.returns
 returns c =
-    let e = here_of c.before.before in
-    let l = low_of e in
-    ap update_says
-    (ap Volume (to_z_pos w32 _ (overflow_cast-result c).sfits ∙ ap pos c.walk_from.ensures) ∙ steps_to _ _ _ _ _ (low-is l) _ (here-is e) _ (high_is c.before.before) c.if-max-volume.false
-    ∙ back l.before.before)
+    ap said
+    (ap Ok (to_z_pos w32 _ (omega (arith, c.walk_from.type_inv)) ∙ ap pos c.walk_from.ensures)
+    ∙ steps_to _ _ _ _ _ (asked_some _ _ _ _ c.within.ensures c.ok_or.ensures.value c.in_ok-min.was) _ (asked_some _ _ _ _ c.within-2.ensures c.ok_or-2.ensures.value c.in_ok-volume.was) _
+    (asked_some _ _ _ _ c.within-3.ensures c.ok_or-3.ensures.value c.in_ok-max.was) c.if-max-volume.false
+    ∙ back _ _ _ _ c.ranges.gain_error_db c.ranges.input_volume c.ranges.min_input_volume c.ranges.max_input_volume)

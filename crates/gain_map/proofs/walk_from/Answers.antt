@@ -16,11 +16,11 @@ back c = ap (λ (z : ℤ). walk z c.args.volume c.args.min c.args.max) (to_z-of_
 
 pub returns-then-wanted-gt0 : goal.returns-then-wanted-gt0
 returns-then-wanted-gt0 c =
-    c.rise_from.ensures ∙ ap (λ (n : ℕ). rise (pos n) c.args.volume c.args.max) c.size-size.ensures ∙ walk_up _ _ _ _ c.if-wanted-gt0.true ∙ back c.before.before.before
+    c.rise_from.ensures ∙ ap (λ (n : ℕ). rise (pos n) c.args.volume c.args.max) c.unsigned_abs-size.ensures.value ∙ walk_up _ _ _ _ c.if-wanted-gt0.true ∙ back c.before.before.before
 
 pub returns-then-wanted-lt0 : goal.returns-then-wanted-lt0
 returns-then-wanted-lt0 c =
-    c.fall_from.ensures ∙ ap (λ (n : ℕ). fall (neg_ℤ (pos n)) c.args.volume c.args.min) c.size-size.ensures ∙ walk_down _ _ _ _ c.if-wanted-lt0.true
+    c.fall_from.ensures ∙ ap (λ (n : ℕ). fall (neg_ℤ (pos n)) c.args.volume c.args.min) c.unsigned_abs-size.ensures.value ∙ walk_down _ _ _ _ c.if-wanted-lt0.true
     ∙ back c.before.before.before.before
 
 pub returns : goal.returns

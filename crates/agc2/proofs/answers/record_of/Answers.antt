@@ -1,12 +1,12 @@
 -- `answers::record_of` meets its contract. Assumes nothing.
 use mathlib.Core.Path.{sym, ap}
-use Rattle.clipping_predictor_level_buffer.specs.declared.Stored.{Stored}
-use Rattle.clipping_predictor_level_buffer.specs.Ring.{stored_says}
+use Rattle.std.specs.Prelude.{Option}
+use Rattle.clipping_predictor_level_buffer.specs.declared.level.Level.{Level}
 use Rattle.agc2.specs.Answers.{record_of}
 use Rattle.agc2.proofs.answers.record_of.Goals as goal
 
-pub returns-in-Record : goal.returns-in-Record
-returns-in-Record c = sym (ap (λ (s : Stored). record_of (stored_says s)) c.in-Record.is)
+pub returns-in-Some : goal.returns-in-Some
+returns-in-Some c = sym (ap (λ (s : Option Level). record_of s) c.in-Some.is)
 
-pub returns-in-Missing : goal.returns-in-Missing
-returns-in-Missing c = sym (ap (λ (s : Stored). record_of (stored_says s)) c.in-Missing.is)
+pub returns-in-None : goal.returns-in-None
+returns-in-None c = sym (ap (λ (s : Option Level). record_of s) c.in-None.is)

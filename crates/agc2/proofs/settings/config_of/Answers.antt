@@ -1,5 +1,6 @@
 -- `settings::config_of` meets its contract. Assumes nothing.
 use Rattle.numbers.proofs.Signs.{again}
+use Rattle.input_volume_controller.proofs.Flags.{set_is}
 use Rattle.agc2.proofs.settings.config_of.Goals as goal
 
 pub returns : goal.returns
@@ -10,7 +11,7 @@ returns c =
       clipped_level_step = again c.args.c.clipped_level_step c.struct_told-1.given.1.1.0.1 i;
       clipped_ratio_threshold = c.args.c.clipped_ratio_threshold;
       clipped_wait_frames = again c.args.c.clipped_wait_frames c.struct_told-1.given.1.1.1.1.0.1 i;
-      enable_clipping_predictor = c.is_set.ensures i;
+      enable_clipping_predictor = set_is c.args.c.enable_clipping_predictor i;
       target_range_max_dbfs = again c.args.c.target_range_max_dbfs c.struct_told-1.given.1.1.1.1.1.1.0.1 i;
       target_range_min_dbfs = again c.args.c.target_range_min_dbfs c.struct_told-1.given.1.1.1.1.1.1.1.0.1 i;
       update_input_volume_wait_frames = again c.args.c.update_input_volume_wait_frames c.struct_told-1.given.1.1.1.1.1.1.1.1.0.1 i;

@@ -15,7 +15,7 @@ use Rattle.clipping_predictor.proofs.measuring.bring.Goals as goal
 pub returns-then-not-frame_fits : goal.returns-then-not-frame_fits
 returns-then-not-frame_fits c =
     let e : frame_fits c.args.channels c.args.samples c.args.frame.now ≡ false = sym c.frame_fits.ensures ∙ c.if-not-frame_fits.true in
-    brings_nothing _ _ _ _ c.args.on 0 _ (ap (λ (b : Bool). c.args.on && b) e ∙ and_false c.args.on) (sym (ap (λ (b : Bool). clipped_if b (clipped_for c.args.question c.args.channels c.args.samples c.args.frame.now)) e)) c.unheard.ensures
+    brings_nothing _ _ _ _ c.args.on 0 (ap (λ (b : Bool). c.args.on && b) e ∙ and_false c.args.on) (sym (ap (λ (b : Bool). clipped_if b (clipped_for c.args.question c.args.channels c.args.samples c.args.frame.now)) e))
 
 -- the frame fits
 
@@ -39,7 +39,7 @@ returns-then-not-on c =
     let first_is : c.hearing-first.result ≡ hearing (is_asked c.args.question) c.args.channels = c.hearing-first.ensures ∙ ap (λ (b : Bool). hearing b c.args.channels) c.is_asked.ensures in
     let fitting : frame_fits c.args.channels c.args.samples c.args.frame.now ≡ true = sym c.frame_fits.ensures ∙ c.if-not-frame_fits.false in
     let most-is : (n : ℕ) → n ≡ most_clipped c.hearing-first.result c.args.samples c.args.frame.now → n ≡ clipped_if (frame_fits c.args.channels c.args.samples c.args.frame.now) (clipped_for c.args.question c.args.channels c.args.samples c.args.frame.now) = λ n e. e ∙ ap (λ (k : ℕ). most_clipped k c.args.samples c.args.frame.now) (first_is) ∙ sym (ap (λ (b : Bool). clipped_if b (clipped_for c.args.question c.args.channels c.args.samples c.args.frame.now)) (fitting)) in
-    brings_nothing _ _ _ _ c.args.on _ _ (ap (λ (b : Bool). b && frame_fits c.args.channels c.args.samples c.args.frame.now) (c.if-not-on.true)) (most-is _ c.most_clipped.ensures) c.unheard-then-not-on.ensures
+    brings_nothing _ _ _ _ c.args.on _ (ap (λ (b : Bool). b && frame_fits c.args.channels c.args.samples c.args.frame.now) (c.if-not-on.true)) (most-is _ c.most_clipped.ensures)
 
 pub levels_of-levels-requires : goal.levels_of-levels-requires
 levels_of-levels-requires c =

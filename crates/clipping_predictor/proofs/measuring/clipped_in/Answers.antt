@@ -7,27 +7,15 @@ use Rattle.clipping_predictor_level_buffer.proofs.Clipped.{count_most}
 use Rattle.clipping_predictor.proofs.MostClipped.{starts, goes_on, ends}
 use Rattle.clipping_predictor.proofs.measuring.clipped_in.Goals as goal
 
-pub loop-at-init : goal.loop-at-init
-loop-at-init c = starts _
-
-pub offset_bounds-samples-at : goal.offset_bounds-samples-at
-offset_bounds-samples-at c = omega arith
-
-pub bounds-samples-at : goal.bounds-samples-at
-bounds-samples-at c = omega arith
+pub loop-sample-init : goal.loop-sample-init
+loop-sample-init c = starts _
 
 pub overflow_add-count : goal.overflow_add-count
 overflow_add-count c =
-    omega (arith, c.loop-at.invariant.most, c.count_of-count.ensures, count_most (get_or c.args.samples.now c.loop-at.at nan), c.requires)
+    omega (arith, c.loop-sample.invariant.most, c.count_of-count.ensures, count_most (get_or c.args.samples.now c.loop-sample.sample-index nan), c.requires)
 
-pub overflow_add-at : goal.overflow_add-at
-overflow_add-at c = omega arith
-
-pub loop-at-smaller : goal.loop-at-smaller
-loop-at-smaller c = omega arith
-
-pub loop-at-preserved : goal.loop-at-preserved
-loop-at-preserved c = goes_on _ _ _ _ _ c.loop-at.invariant (omega arith) c.count_of-count.ensures refl
+pub loop-sample-preserved : goal.loop-sample-preserved
+loop-sample-preserved c = goes_on _ _ _ _ _ c.loop-sample.invariant c.loop-sample-test.true c.count_of-count.ensures refl
 
 pub returns : goal.returns
-returns c = ends _ _ _ c.loop-at.invariant c.loop-at-test.false
+returns c = ends _ _ _ c.loop-sample.invariant c.loop-sample-test.false

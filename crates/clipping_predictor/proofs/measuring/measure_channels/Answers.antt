@@ -1,22 +1,29 @@
 -- `clipping_predictor::measuring::measure_channels` meets its contract: each return by the tests that lead there. Assumes nothing.
-use mathlib.Core.Path.{refl, sym, ◌∙◌}
-use Rattle.clipping_predictor.proofs.FrameLevels.{measured_as, no_channel, too_many, tested}
+use mathlib.Core.Path.{refl, sym, ap}
+use mathlib.Core.List.{List}
+use Rattle.std.specs.Prelude.{Ok, Err}
+use Rattle.numbers.specs.declared.refusal.Refusal.TheVariants.{ChannelCount, FrameSize}
+use Rattle.clipping_predictor_level_buffer.specs.declared.level.Level.{Level}
+use Rattle.clipping_predictor.specs.Predictor.{frame_fits}
+use Rattle.clipping_predictor.specs.FrameLevels.{measuring_if, measuring_of}
+use Rattle.clipping_predictor.proofs.FrameLevels.{measured_as}
 use Rattle.clipping_predictor.proofs.measuring.measure_channels.Goals as goal
 
-pub returns-then-channels-lt1 : goal.returns-then-channels-lt1
-returns-then-channels-lt1 c = measured_as _ _ _ _ _ (no_channel _ _ _ c.if-channels-lt1.true) c.refused.ensures
-
-pub returns-then-channels-gt-MAX_CHANNELS : goal.returns-then-channels-gt-MAX_CHANNELS
-returns-then-channels-gt-MAX_CHANNELS c = measured_as _ _ _ _ _ (too_many _ _ _ c.if-channels-lt1.false c.if-channels-gt-MAX_CHANNELS.true) c.refused-then-channels-gt-MAX_CHANNELS.ensures
+pub returns-then-not-is_channel_count : goal.returns-then-not-is_channel_count
+unfolding measuring_of
+returns-then-not-is_channel_count c =
+    measured_as c.args.channels c.args.samples_per_channel c.args.frame.now (Err ChannelCount) _
+    (λ i. measuring_if (sym c.if-not-is_channel_count.ensures i) (frame_fits c.args.channels c.args.samples_per_channel c.args.frame.now)) refl
 
 pub returns-then-not-frame_fits : goal.returns-then-not-frame_fits
+unfolding measuring_of
 returns-then-not-frame_fits c =
-    measured_as _ _ _ _ _ (tested _ _ _ c.if-channels-lt1.false _ c.if-channels-gt-MAX_CHANNELS.false (sym c.frame_fits.ensures ∙ c.if-not-frame_fits.true)) c.refused-then-not-frame_fits.ensures
-
-pub levels_of-requires : goal.levels_of-requires
-levels_of-requires c =
-    (c.if-channels-gt-MAX_CHANNELS.false, sym c.frame_fits.ensures ∙ c.if-not-frame_fits.false)
+    measured_as c.args.channels c.args.samples_per_channel c.args.frame.now (Err FrameSize) _
+    (λ i. measuring_if (sym c.if-not-is_channel_count.ensures i) (sym c.if-not-frame_fits.ensures i)) refl
 
 pub returns : goal.returns
+unfolding measuring_of
 returns c =
-    measured_as _ _ _ _ _ (tested _ _ _ c.if-channels-lt1.false _ c.if-channels-gt-MAX_CHANNELS.false (sym c.frame_fits.ensures ∙ c.if-not-frame_fits.false)) (record { answer_is = refl; levels_are = c.levels_of.ensures })
+    measured_as c.args.channels c.args.samples_per_channel c.args.frame.now (Ok tt) _
+    (λ i. measuring_if (sym c.if-not-is_channel_count.ensures i) (sym c.if-not-frame_fits.ensures i))
+    (ap (λ (l : List Level). Ok (record { items = l })) c.levels_of.ensures)

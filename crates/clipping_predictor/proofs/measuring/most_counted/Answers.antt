@@ -1,35 +1,29 @@
 -- `measuring::most_counted` meets its contract: channel by channel. Assumes nothing.
-use mathlib.Core.Path.{refl, sym, ap, ◌∙◌}
-use Prim.Native.Nat.{ℕ, max}
+use mathlib.Core.Path.{ap, sym, ◌∙◌}
+use mathlib.Core.List.{List, map, foldl}
+use Prim.Native.Nat.{ℕ, max, ◌≤◌}
 use native.Mathlib.Omega.{arith}
+use lib.ListN.{length, get_or, take, length-take}
+use lib.Seq.{take_all}
+use Rattle.std.proofs.lemmas.List.{get_or-take}
+use Rattle.numbers.proofs.Listed.{listed_of}
+use Rattle.clipping_predictor_level_buffer.specs.declared.level.Level.{Level}
 use Rattle.clipping_predictor_level_buffer.specs.Ring.{no_level}
 use Rattle.clipping_predictor_level_buffer.specs.Metrics.{clipped_of}
+use Rattle.clipping_predictor_level_buffer.proofs.Folds.{folded_more}
 use Rattle.clipping_predictor.specs.MostClipped.{most_counted}
-use Rattle.clipping_predictor.proofs.MostClipped.{one_more, all}
-use Rattle.clipping_predictor.proofs.measuring.most_counted.Invariants.{at}
 use Rattle.clipping_predictor.proofs.measuring.most_counted.Goals as goal
 
--- the record in a channel's place
-pub loop-c-init : goal.loop-c-init
-loop-c-init c = (refl, omega arith)
-
-pub offset_bounds-levels-c : goal.offset_bounds-levels-c
-offset_bounds-levels-c c = omega arith
-
-pub bounds-levels-c : goal.bounds-levels-c
-bounds-levels-c c = omega arith
-
-pub overflow_step-c : goal.overflow_step-c
-overflow_step-c c = omega arith
-
-pub loop-c-smaller : goal.loop-c-smaller
-loop-c-smaller c = omega arith
-
-pub loop-c-preserved : goal.loop-c-preserved
-loop-c-preserved c =
-    (c.larger-most.ensures ∙ ap (λ (m : ℕ). max m (clipped_of (at c.args.levels.items c.loop-c.c))) c.loop-c.invariant.0 ∙ sym (one_more no_level clipped_of (at c.args.levels.items) c.args.first c.loop-c.c (omega arith)), omega arith)
+pub loop-level-preserved : goal.loop-level-preserved
+loop-level-preserved c =
+    let items = take c.args.first c.args.levels.items in
+    c.max-most.ensures ∙ ap (λ (m : ℕ). max m (clipped_of (get_or items c.loop-level.level-index no_level))) c.loop-level.invariant ∙ sym (folded_more max clipped_of no_level 0 items c.loop-level.level-index c.loop-level-test.true)
 
 pub returns : goal.returns
 unfolding most_counted
 returns c =
-    c.loop-c.invariant.0 ∙ all no_level clipped_of (at c.args.levels.items) c.args.first c.loop-c.c (omega arith)
+    let items = take c.args.first c.args.levels.items in
+    let room : c.args.first ≤ length c.args.levels.items = omega arith in
+    c.loop-level.invariant
+    ∙ ap (λ (l : List Level). foldl max 0 (map clipped_of l)) (take_all c.loop-level.level-index items c.loop-level-test.false)
+    ∙ ap (λ (l : List Level). foldl max 0 (map clipped_of l)) (listed_of items no_level _ c.args.first (omega (arith, length-take c.args.first c.args.levels.items, room)) (λ i h. get_or-take c.args.first c.args.levels.items i no_level h))

@@ -17,13 +17,13 @@ change : (w : After-with_sign-change) → mir.Val.to_z w32 (mir.Val.of_z w32 w.w
 unfolding signed
 change w =
     let e : min (min w.args.k max_gain_change) (2 ^ 31) ≡ min w.args.k max_gain_change = omega arith in
-    to_z-of_z w32 w.with_sign-change.result (record { sfits = w.with_sign-change.type_inv }) ∙ w.with_sign-change.ensures ∙ ap (signed true) w.least_change.ensures ∙ ap (λ (n : ℕ). neg_ℤ (pos n)) e
+    to_z-of_z w32 w.with_sign-change.result (record { sfits = w.with_sign-change.type_inv }) ∙ w.with_sign-change.ensures ∙ ap (signed true) w.min-size.ensures ∙ ap (λ (n : ℕ). neg_ℤ (pos n)) e
 
 pub returns : goal.returns
 unfolding adaptive_drop
 returns c =
     c.drop_by.ensures
     ∙ ap (drop_by c.args.a)
-    (c.larger.ensures
+    (c.max.ensures
     ∙ ap (λ (n : ℕ). max n c.args.a.step)
-    (c.less.ensures ∙ ap (λ (n : ℕ). c.args.a.level - n) (c.walk_from-to.ensures ∙ ap (λ (z : ℤ). walk z c.args.a.level c.args.a.least c.args.a.most) (change c.before.before.before.before))))
+    (c.saturating_sub.ensures ∙ ap (λ (n : ℕ). c.args.a.level - n) (c.walk_from-to.ensures ∙ ap (λ (z : ℤ). walk z c.args.a.level c.args.a.least c.args.a.most) (change c.before.before.before.before))))

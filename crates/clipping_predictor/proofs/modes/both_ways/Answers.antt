@@ -2,4 +2,4 @@
 use Rattle.clipping_predictor.proofs.modes.both_ways.Goals as goal
 
 pub returns : goal.returns
-returns c = λ i. record { drop = c.args.a.drop; low = c.smaller.ensures i; high = c.larger.ensures i }
+returns c = λ i. record { drop = c.args.a.drop; low = c.min.ensures i; high = c.max.ensures i }

@@ -8,6 +8,6 @@ use Rattle.clipping_predictor.proofs.modes.compute_crest_factor.Goals as goal
 pub returns : goal.returns
 returns c =
     record {
-      is = c.difference.ensures.exact level_limit level_limit c.peak_level.ensures.bounded c.mean_square_level.ensures.bounded (lit< tt) ∙ (λ i. minus (c.peak_level.ensures.is i) (c.mean_square_level.ensures.is i));
-      bounded = c.difference.ensures.bounded level_limit level_limit c.peak_level.ensures.bounded c.mean_square_level.ensures.bounded (lit< tt);
+      is = c.sub.ensures.exact level_limit level_limit c.peak_level.ensures.bounded c.mean_square_level.ensures.bounded (lit< tt) ∙ (λ i. minus (c.peak_level.ensures.is i) (c.mean_square_level.ensures.is i));
+      bounded = c.sub.ensures.bounded level_limit level_limit c.peak_level.ensures.bounded c.mean_square_level.ensures.bounded (lit< tt);
     }

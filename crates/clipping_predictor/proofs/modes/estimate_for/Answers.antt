@@ -2,10 +2,12 @@
 use mathlib.Core.Path.{sym, ap, ap₂, ◌∙◌}
 use Prim.Native.Nat.{ℕ}
 use borrow.Author.Tests.{not-true, not-false}
-use Rattle.clipping_predictor_level_buffer.specs.declared.Metrics.{Metrics}
+use Rattle.std.specs.Prelude.{Option, Result}
+use Rattle.numbers.specs.declared.refusal.Refusal.{Refusal}
+use Rattle.numbers.proofs.Said.{said_fixed}
+use Rattle.clipping_predictor_level_buffer.specs.declared.level.Level.{Level}
 use Rattle.clipping_predictor_level_buffer.specs.Ring.{stored}
 use Rattle.clipping_predictor_level_buffer.specs.Metrics.{partial_metrics}
-use Rattle.clipping_predictor_level_buffer.proofs.Says.{metrics_fixed}
 use Rattle.clipping_predictor.specs.Turned.{estimated}
 use Rattle.clipping_predictor.specs.Estimate.{windows_tree}
 use Rattle.clipping_predictor.proofs.Windows.{off, low, on}
@@ -22,7 +24,7 @@ returns-then-a c =
 pub returns : goal.returns
 returns c =
     c.from_windows.ensures
-    ∙ ap₂ (λ (m r : Metrics). estimated (windows_tree c.args.s c.args.a m r))
-    (metrics_fixed c.partial_metrics-newest.result (partial_metrics c.args.ring.capacity (stored c.args.ring) 0 c.args.s.window) c.partial_metrics-newest.ensures ∙ ap (λ (n : ℕ). partial_metrics n (stored c.args.ring) 0 c.args.s.window) c.requires.capacity)
-    (metrics_fixed c.partial_metrics-older.result (partial_metrics c.args.ring.capacity (stored c.args.ring) c.args.s.delay c.args.s.reference) c.partial_metrics-older.ensures ∙ ap (λ (n : ℕ). partial_metrics n (stored c.args.ring) c.args.s.delay c.args.s.reference) c.requires.capacity)
+    ∙ ap₂ (λ (m r : Result (Option Level) Refusal). estimated (windows_tree c.args.s c.args.a m r))
+    (said_fixed c.partial_metrics-newest.result (partial_metrics c.args.ring.capacity (stored c.args.ring) 0 c.args.s.window) c.partial_metrics-newest.ensures ∙ ap (λ (n : ℕ). partial_metrics n (stored c.args.ring) 0 c.args.s.window) c.requires.capacity)
+    (said_fixed c.partial_metrics-older.result (partial_metrics c.args.ring.capacity (stored c.args.ring) c.args.s.delay c.args.s.reference) c.partial_metrics-older.ensures ∙ ap (λ (n : ℕ). partial_metrics n (stored c.args.ring) c.args.s.delay c.args.s.reference) c.requires.capacity)
     ∙ sym (ap estimated (on c.args.s (stored c.args.ring) c.args.a (not-false _ c.if-not-s.false) c.if-a.false))

@@ -13,9 +13,9 @@ offset = lit≤ tt
 
 pub returns : goal.returns
 returns c =
-    let b = c.sum-projected.ensures.bounded (level_limit + level_limit) level_limit c.compute_crest_factor.ensures.bounded c.mean_square_level.ensures.bounded (lit< tt) in
-    let e = c.sum-projected.ensures.exact (level_limit + level_limit) level_limit c.compute_crest_factor.ensures.bounded c.mean_square_level.ensures.bounded (lit< tt) in
+    let b = c.add.ensures.bounded (level_limit + level_limit) level_limit c.compute_crest_factor.ensures.bounded c.mean_square_level.ensures.bounded (lit< tt) in
+    let e = c.add.ensures.exact (level_limit + level_limit) level_limit c.compute_crest_factor.ensures.bounded c.mean_square_level.ensures.bounded (lit< tt) in
     record {
-      is = c.sum.ensures.exact (level_limit + level_limit + level_limit) 90310 b offset (lit< tt) ∙ ap (λ (d : Decibels). plus d min_level_dbfs) (e ∙ (λ i. plus (c.compute_crest_factor.ensures.is i) (c.mean_square_level.ensures.is i)));
-      bounded = c.sum.ensures.bounded (level_limit + level_limit + level_limit) 90310 b offset (lit< tt);
+      is = c.add-2.ensures.exact (level_limit + level_limit + level_limit) 90310 b offset (lit< tt) ∙ ap (λ (d : Decibels). plus d min_level_dbfs) (e ∙ (λ i. plus (c.compute_crest_factor.ensures.is i) (c.mean_square_level.ensures.is i)));
+      bounded = c.add-2.ensures.bounded (level_limit + level_limit + level_limit) 90310 b offset (lit< tt);
     }

@@ -18,9 +18,9 @@ pub returns-then-z-lt0 : goal.returns-then-z-lt0
 returns-then-z-lt0 c = whole_below (mir.Val.to_z w32 (mir.Val.of_z w32 c.args.z)) c.if-z-lt0.true ∙ ap nearest_whole (back c.before)
 
 pub overflow_add-result : goal.overflow_add-result
-overflow_add-result c = omega (arith, c.size.ensures, size_fits c.args.z c.ranges.z.sfits, ap nat_abs (back c.before.before))
+overflow_add-result c = omega (arith, c.unsigned_abs.ensures.value, size_fits c.args.z c.ranges.z.sfits, ap nat_abs (back c.before.before))
 
 pub returns : goal.returns
 returns c =
-    ap (λ (n : ℕ). (n + 500) / 1000) c.size.ensures
+    ap (λ (n : ℕ). (n + 500) / 1000) c.unsigned_abs.ensures.value
     ∙ whole_above (mir.Val.to_z w32 (mir.Val.of_z w32 c.args.z)) c.if-z-lt0.false ∙ ap nearest_whole (back c.before.before)

@@ -19,11 +19,11 @@ pub returns-in_default : goal.returns-in_default
 returns-in_default c = back c.before.before _ (push_refused _ _ _ (outside_count _ (sym c.within-counted.ensures ∙ c.in_default.is)) c.requires)
 
 pub overflow_cast-level : goal.overflow_cast-level
-overflow_cast-level c = omega (arith, (inside_count _ _ (sym c.within-counted.ensures ∙ c.in-Number.is)).0)
+overflow_cast-level c = omega (arith, (inside_count _ _ (sym c.within-counted.ensures ∙ c.in-Some.is)).0)
 
 pub push_level-requires : goal.push_level-requires
 push_level-requires c = c.requires
 
 pub returns : goal.returns
 returns c =
-    back c.before.before.before _ (push_offered _ _ _ _ _ _ (sym c.within-counted.ensures ∙ c.in-Number.is) c.push_level.ensures)
+    back c.before.before.before _ (push_offered _ _ _ _ _ _ (sym c.within-counted.ensures ∙ c.in-Some.is) c.push_level.ensures)

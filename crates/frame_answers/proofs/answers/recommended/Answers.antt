@@ -8,14 +8,14 @@ use Rattle.numbers.proofs.Signs.{again}
 use Rattle.frame_answers.specs.LineStep.{recommended, volume_in}
 use Rattle.frame_answers.proofs.Recommended.{says_volume, same_volume}
 use Rattle.frame_answers.proofs.answers.recommended.Goals as goal
-use Rattle.frame_answers.proofs.answers.recommended.Goals.{After-size, In-Volume}
+use Rattle.frame_answers.proofs.answers.recommended.Goals.{After-unsigned_abs, In-Some}
 
 -- the volume that is recommended, as it is shown
-size_is : (c : After-size) → c.size.result ≡ nat_abs c.in-Volume.volume
-size_is c = c.size.ensures ∙ ap nat_abs (again c.in-Volume.volume c.in-Volume.known_told-1-own.given.0.1)
+size_is : (c : After-unsigned_abs) → c.unsigned_abs.result ≡ nat_abs c.in-Some.volume
+size_is c = c.unsigned_abs.ensures.value ∙ ap nat_abs (again c.in-Some.volume c.in-Some.known_told-1-own.given.0.1)
 
-volume-said : (c : In-Volume) → volume c.in-Volume.volume ≡ recommendation_says c.recommend_input_volume-done.result.answer
-volume-said c = sym (ap recommendation_says c.in-Volume.is)
+volume-said : (c : In-Some) → volume c.in-Some.volume ≡ recommendation_says c.recommend_input_volume-done.result.answer
+volume-said c = sym (ap recommendation_says c.in-Some.is)
 
 pub returns-in_default : goal.returns-in_default
 unfolding volume_in
@@ -32,7 +32,7 @@ returns-in_default c =
 pub overflow_cast-result : goal.overflow_cast-result
 overflow_cast-result c =
     let m = says_volume c.args.controller _ _ _ _ c.recommend_input_volume-done.ensures c.requires.1 in
-    let e : c.in-Volume.volume ≡ pos m.shown = same_volume _ _ (volume-said c.before ∙ m.is) in
+    let e : c.in-Some.volume ≡ pos m.shown = same_volume _ _ (volume-said c.before ∙ m.is) in
     omega (arith, size_is c, ap nat_abs e, m.most)
 
 pub returns : goal.returns

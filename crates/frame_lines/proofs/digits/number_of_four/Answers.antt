@@ -10,12 +10,6 @@ use Rattle.frame_lines.proofs.digits.number_of_four.Goals.{After-word_of-word}
 most : (c : After-word_of-word) → bit_and c.word_of-word.result 0x0f0f0f0f + bit_and c.word_of-word.result 0x40404040 / 64 * 9 ≤ 0x0f0f0f0f
 most c = values_most (part_four _ _ c.requires.0) c.requires.1 _ c.word_of-word.ensures
 
-pub overflow_mul-values : goal.overflow_mul-values
-overflow_mul-values c = omega (arith, most c)
-
-pub overflow_add-values : goal.overflow_add-values
-overflow_add-values c = omega (arith, most c)
-
 pub overflow_mul-pairs : goal.overflow_mul-pairs
 overflow_mul-pairs c = omega (arith, most c)
 

@@ -28,8 +28,5 @@ digit_of-requires-2 c = (two_digits (part_two _ _ c.requires.0) c.requires.1).1
 pub overflow_add-result : goal.overflow_add-result
 overflow_add-result c = omega (arith, below c)
 
-pub overflow_cast-result : goal.overflow_cast-result
-overflow_cast-result c = omega (arith, below c)
-
 pub returns : goal.returns
 returns c = made c

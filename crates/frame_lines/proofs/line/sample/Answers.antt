@@ -1,14 +1,13 @@
 -- `frame_lines::line::sample` meets its contract. Assumes nothing.
-use mathlib.Core.Path.{ap}
+use mathlib.Core.Path.{ap, ◌∙◌}
+use native.Mathlib.Omega.{arith}
+use mir.Syntax.{w16}
+use mir.ValLaws.{to_z-of_z}
 use Rattle.frame_lines.specs.Parsed.{sample_of}
-use Rattle.frame_lines.proofs.Signed16.{sub_fits, cast_fits, narrow}
+use Rattle.frame_lines.proofs.Signed16.{read_signed}
 use Rattle.frame_lines.proofs.line.sample.Goals as goal
 
-pub overflow_sub-x : goal.overflow_sub-x
-overflow_sub-x c = sub_fits c.args.bits c.requires
-
-pub overflow_cast-x : goal.overflow_cast-x
-overflow_cast-x c = cast_fits c.args.bits c.requires
-
 pub returns : goal.returns
-returns c = ap sample_of (narrow c.args.bits c.requires)
+returns c =
+    c.from.ensures
+    ∙ ap sample_of (to_z-of_z w16 c.cast_signed.result (record { sfits = omega arith }) ∙ c.cast_signed.ensures ∙ read_signed c.args.bits (omega arith))

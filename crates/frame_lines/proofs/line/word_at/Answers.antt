@@ -3,12 +3,11 @@ use mathlib.Core.Path.{◌≡◌, sym, ap, ◌∙◌}
 use mathlib.Core.Bool.{true}
 use Prim.Native.Nat.{◌+◌, ◌*◌}
 use native.Mathlib.Omega.{arith}
-use Rattle.frame_lines.specs.declared.line.Word.TheVariants.{Number}
+use Rattle.std.specs.Prelude.{Some}
 use Rattle.frame_lines.specs.Digits.{are_digits}
 use Rattle.frame_lines.specs.Line.{part}
 use Rattle.frame_lines.proofs.Tests.{Both}
-use Rattle.frame_lines.proofs.Parts.{part_four, lent_part, halves_digits, word_lost, word_kept}
-use Rattle.frame_lines.proofs.Counted.{four_below}
+use Rattle.frame_lines.proofs.Parts.{lent_part, halves_digits, word_lost, word_kept}
 use Rattle.frame_lines.proofs.line.word_at.Goals as goal
 
 pub returns-then-not-all_digits : goal.returns-then-not-all_digits
@@ -23,13 +22,6 @@ number_of_four-requires c =
     let halves : Both (are_digits (part c.args.line.now c.args.at 4)) (are_digits (part c.args.line.now (c.args.at + 4) 4)) = halves_digits c.args.line.now c.args.at (eight) in
     (omega arith, halves.first)
 
-pub overflow_mul-result : goal.overflow_mul-result
-overflow_mul-result c =
-    let told : are_digits (part c.args.line.now c.args.at 8) ≡ c.all_digits.result = ap are_digits (sym (lent_part c.args.line.now c.args.at 8)) ∙ sym c.all_digits.ensures in
-    let eight : are_digits (part c.args.line.now c.args.at 8) ≡ true = told ∙ c.if-not-all_digits.false in
-    let halves : Both (are_digits (part c.args.line.now c.args.at 4)) (are_digits (part c.args.line.now (c.args.at + 4) 4)) = halves_digits c.args.line.now c.args.at (eight) in
-    omega (arith, c.number_of_four.ensures, four_below (part_four c.args.line.now c.args.at (omega arith)) halves.first)
-
 pub number_of_four-requires-2 : goal.number_of_four-requires-2
 number_of_four-requires-2 c =
     let told : are_digits (part c.args.line.now c.args.at 8) ≡ c.all_digits.result = ap are_digits (sym (lent_part c.args.line.now c.args.at 8)) ∙ sym c.all_digits.ensures in
@@ -37,16 +29,8 @@ number_of_four-requires-2 c =
     let halves : Both (are_digits (part c.args.line.now c.args.at 4)) (are_digits (part c.args.line.now (c.args.at + 4) 4)) = halves_digits c.args.line.now c.args.at (eight) in
     (omega arith, halves.second)
 
-pub overflow_add-result : goal.overflow_add-result
-overflow_add-result c =
-    let told : are_digits (part c.args.line.now c.args.at 8) ≡ c.all_digits.result = ap are_digits (sym (lent_part c.args.line.now c.args.at 8)) ∙ sym c.all_digits.ensures in
-    let eight : are_digits (part c.args.line.now c.args.at 8) ≡ true = told ∙ c.if-not-all_digits.false in
-    let halves : Both (are_digits (part c.args.line.now c.args.at 4)) (are_digits (part c.args.line.now (c.args.at + 4) 4)) = halves_digits c.args.line.now c.args.at (eight) in
-    let h = halves in
-    omega (arith, c.number_of_four.ensures, c.number_of_four-2.ensures, four_below (part_four c.args.line.now c.args.at (omega arith)) h.first, four_below (part_four c.args.line.now (c.args.at + 4) (omega arith)) h.second)
-
 pub returns : goal.returns
 returns c =
     let told : are_digits (part c.args.line.now c.args.at 8) ≡ c.all_digits.result = ap are_digits (sym (lent_part c.args.line.now c.args.at 8)) ∙ sym c.all_digits.ensures in
     let eight : are_digits (part c.args.line.now c.args.at 8) ≡ true = told ∙ c.if-not-all_digits.false in
-    (λ i. Number (c.number_of_four.ensures i * 65536 + c.number_of_four-2.ensures i)) ∙ word_kept _ _ c.requires (eight)
+    (λ i. Some ((c.from-high.ensures ∙ c.number_of_four.ensures) i * 65536 + (c.from-low.ensures ∙ c.number_of_four-2.ensures) i)) ∙ word_kept _ _ c.requires (eight)

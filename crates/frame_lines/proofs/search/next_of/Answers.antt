@@ -1,17 +1,14 @@
--- `frame_lines::search::next_of` meets its contract: the search from a place that has another byte is that from the next. Assumes nothing.
-use mathlib.Core.Path.{◌∙◌}
+-- `frame_lines::search::next_of` meets its contract: behind the end there is nothing, and the first place in a part is counted from its start. Assumes nothing.
 use native.Mathlib.Omega.{arith}
-use Rattle.frame_lines.proofs.Searching.{byte_here, byte_on, byte_nowhere}
+use Rattle.frame_lines.proofs.Parts.{lent_rest}
+use Rattle.frame_lines.proofs.Searching.{place_found, place_lost, place_behind}
 use Rattle.frame_lines.proofs.search.next_of.Goals as goal
 
-pub loop-i-init : goal.loop-i-init
-loop-i-init c = c.passed-i.ensures
+pub returns-then-bytes-start : goal.returns-then-bytes-start
+returns-then-bytes-start c = place_behind _ _ _ (omega (arith, c.if-bytes-start.true))
 
-pub returns-then-bytes-i : goal.returns-then-bytes-i
-returns-then-bytes-i c = byte_here _ _ _ (omega arith) c.if-bytes-i.true ∙ c.loop-i.invariant
-
-pub loop-i-preserved : goal.loop-i-preserved
-loop-i-preserved c = byte_on _ _ _ (omega arith) c.if-bytes-i.false ∙ c.loop-i.invariant
+pub returns-in_err-n : goal.returns-in_err-n
+returns-in_err-n c = rw c.from_residual.ensures (place_lost _ _ _ _ (lent_rest c.args.bytes.now c.args.start) c.in_err-n.ensures)
 
 pub returns : goal.returns
-returns c = byte_nowhere _ _ _ c.loop-i-test.false ∙ c.loop-i.invariant
+returns c = place_found _ _ _ _ (lent_rest c.args.bytes.now c.args.start) _ c.in_ok-n.ensures

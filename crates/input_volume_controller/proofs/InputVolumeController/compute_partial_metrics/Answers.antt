@@ -5,8 +5,9 @@ use Prim.Native.Nat.{ℕ}
 use native.Mathlib.Omega.{arith}
 use lib.IntN.{ℤ}
 use Rattle.numbers.proofs.Signs.{again}
+use Rattle.numbers.specs.Said.{said}
 use Rattle.clipping_predictor_level_buffer.specs.declared.level.Level.{Level}
-use Rattle.clipping_predictor_level_buffer.specs.Metrics.{metrics_says, compute_partial_metrics}
+use Rattle.clipping_predictor_level_buffer.specs.Metrics.{compute_partial_metrics}
 use Rattle.clipping_predictor.specs.Predictor as PredictorOf
 use Rattle.input_volume_controller.specs.Controller.{view_of}
 use Rattle.input_volume_controller.specs.ChannelMetrics.{channel_metrics}
@@ -14,8 +15,8 @@ use Rattle.input_volume_controller.proofs.Whole.{records_none, records_some}
 use Rattle.input_volume_controller.proofs.InputVolumeController.compute_partial_metrics.Goals as goal
 
 same : {capacity capacity' : ℕ} {records records' : List Level} {delay delay' n n' : ℤ} → capacity ≡ capacity' → records ≡ records' → delay ≡ delay' → n ≡ n'
-    → metrics_says (compute_partial_metrics capacity records delay n) ≡ metrics_says (compute_partial_metrics capacity' records' delay' n')
-same e f g h = λ i. metrics_says (compute_partial_metrics (e i) (f i) (g i) (h i))
+    → said (compute_partial_metrics capacity records delay n) ≡ said (compute_partial_metrics capacity' records' delay' n')
+same e f g h = λ i. said (compute_partial_metrics (e i) (f i) (g i) (h i))
 
 pub reset-requires : goal.reset-requires
 reset-requires c = (c.requires.predictor.each 0 c.requires.predictor.channels_low).ring

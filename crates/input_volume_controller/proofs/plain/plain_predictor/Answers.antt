@@ -1,6 +1,8 @@
 -- `plain::plain_predictor` meets its contract. Assumes nothing.
+use mathlib.Core.Path.{◌∙◌}
 use Rattle.numbers.proofs.Signs.{again}
 use Rattle.input_volume_controller.specs.Plain.{plain_predictor}
+use Rattle.input_volume_controller.proofs.Flags.{flag_is}
 use Rattle.input_volume_controller.proofs.plain.plain_predictor.Goals as goal
 
 pub returns : goal.returns
@@ -9,7 +11,7 @@ returns c =
     λ i. record {
       rings = c.args.p.rings;
       channels = c.args.p.channels;
-      enabled = c.flag_of.ensures i;
+      enabled = (c.from.ensures ∙ flag_is c.args.p.settings.enabled) i;
       mode = c.mode_number.ensures i;
       window = c.args.p.settings.window;
       reference = c.args.p.settings.reference;

@@ -1,6 +1,7 @@
 -- `plain::whole_predictor` meets its contract. Assumes nothing.
 use Rattle.numbers.proofs.Signs.{again}
 use Rattle.input_volume_controller.specs.Plain.{whole_predictor}
+use Rattle.input_volume_controller.proofs.Flags.{set_is}
 use Rattle.input_volume_controller.proofs.plain.whole_predictor.Goals as goal
 
 pub returns : goal.returns
@@ -10,7 +11,7 @@ returns c =
       rings = c.args.p.rings;
       channels = c.args.p.channels;
       settings = record {
-        enabled = c.is_set.ensures i;
+        enabled = set_is c.args.p.enabled i;
         mode = c.mode_of.ensures i;
         window = c.args.p.window;
         reference = c.args.p.reference;

@@ -7,4 +7,4 @@ pub returns-then-applied-eq0 : goal.returns-then-applied-eq0
 returns-then-applied-eq0 c = raised_zero _ _ _ c.if-applied-eq0.true
 
 pub returns : goal.returns
-returns c = c.larger.ensures ∙ raised_above _ _ _ c.if-applied-eq0.false
+returns c = c.max.ensures ∙ raised_above _ _ _ c.if-applied-eq0.false

@@ -20,7 +20,7 @@ unfolding levels_of
 loop-i-preserved c = (
   omega arith,
   omega arith,
-  ap (λ (low : ℕ). lowest_from low (drop (c.loop-i.i + 1) (levels_of c.args.levels c.args.channels))) c.smaller-low.ensures
+  ap (λ (low : ℕ). lowest_from low (drop (c.loop-i.i + 1) (levels_of c.args.levels c.args.channels))) c.min-low.ensures
       ∙ lowest_goes_on (level_at c.args.levels) c.args.channels c.loop-i.low c.loop-i.i (omega arith)
       ∙ c.loop-i.invariant.2,
 )

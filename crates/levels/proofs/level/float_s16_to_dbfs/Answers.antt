@@ -13,5 +13,5 @@ offset-bounded = lit≤ tt
 pub returns : goal.returns
 unfolding dbfs
 returns c =
-    c.sum.ensures.exact level_limit 90310 c.peak_level.ensures.bounded offset-bounded (lit< tt)
+    c.add.ensures.exact level_limit 90310 c.peak_level.ensures.bounded offset-bounded (lit< tt)
     ∙ ap (λ (l : Decibels). plus l min_level_dbfs) c.peak_level.ensures.is

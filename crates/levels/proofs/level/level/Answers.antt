@@ -15,22 +15,22 @@ use Rattle.levels.proofs.Pattern.{Stands, stands}
 use Rattle.levels.proofs.Bounds.{binary_le, decimal_le}
 use Rattle.levels.proofs.Cases.{at_nan, at_negative, at_small, at_infinity, at_normal, leveled, leveled_infinity, leveled_nan}
 use Rattle.levels.proofs.level.level.Goals as goal
-use Rattle.levels.proofs.level.level.Goals.{After-from_one, In-Fields, Start}
+use Rattle.levels.proofs.level.level.Goals.{After-from_one, In-Some, Start}
 
 -- what owning an f32 tells: the format holds it
 fit : (c : Start) → T (fits binary32 c.args.v)
 fit c = subst T (sym c.well_formed.1.0.1) tt
 
 -- v is what its fields stand for, with the sign that a test found
-fields : (c : In-Fields) (s : Bool) → c.in-Fields.negative ≡ s
-    → Stands c.args.v s c.in-Fields.exponent c.in-Fields.fraction
+fields : (c : In-Some) (s : Bool) → c.in-Some.field-0.negative ≡ s
+    → Stands c.args.v s c.in-Some.field-0.exponent c.in-Some.field-0.fraction
 fields c s e =
-    subst (λ (b : Bool). Stands c.args.v b c.in-Fields.exponent c.in-Fields.fraction) e
-    (stands _ (fit c.before.before) _ _ _ (sym c.take_apart-parts.ensures ∙ c.in-Fields.is))
+    subst (λ (b : Bool). Stands c.args.v b c.in-Some.field-0.exponent c.in-Some.field-0.fraction) e
+    (stands _ (fit c.before.before) _ _ _ (sym c.take_apart.ensures ∙ c.in-Some.is))
 
 pub returns-in_default : goal.returns-in_default
 returns-in_default c =
-    leveled_nan _ (at_nan c.args.power c.args.v (sym c.take_apart-parts.ensures ∙ c.in_default.is))
+    leveled_nan _ (at_nan c.args.power c.args.v (sym c.take_apart.ensures ∙ c.in_default.is))
 
 pub returns-then-negative : goal.returns-then-negative
 returns-then-negative c = leveled _ 0 (at_negative _ _ _ _ (fields c.before true c.if-negative.true)) (lit≤ tt)
@@ -52,9 +52,9 @@ from_one-requires c =
 limited : (c : After-from_one) → c.from_one.result ≤ level_limit
 limited c =
     let x = from_one-requires c.before in
-    let l = digits 13 ((c.in-Fields.fraction + 2 ^ 23) * 2 ^ 8) in
+    let l = digits 13 ((c.in-Some.field-0.fraction + 2 ^ 23) * 2 ^ 8) in
     subst (λ (z : ℕ). z ≤ level_limit) (sym c.from_one.ensures)
-    (decimal_le c.args.power ((c.in-Fields.exponent - 127) * 2 ^ 13 + l) (binary_le c.args.power c.in-Fields.exponent c.in-Fields.fraction l x.0 x.2 x.3 refl).1)
+    (decimal_le c.args.power ((c.in-Some.field-0.exponent - 127) * 2 ^ 13 + l) (binary_le c.args.power c.in-Some.field-0.exponent c.in-Some.field-0.fraction l x.0 x.2 x.3 refl).1)
 
 pub overflow_cast-result : goal.overflow_cast-result
 overflow_cast-result c = record { sfits = omega (arith, limited c) }

@@ -5,7 +5,7 @@ use Rattle.mono_input_volume_controller.proofs.Checked.{defaults_in_order}
 use Rattle.mono_input_volume_controller.proofs.config.default_settings.Goals as goal
 
 pub kept-requires : goal.kept-requires
-kept-requires c = subst InOrder (sym c.default_config.ensures) defaults_in_order
+kept-requires c = subst InOrder (sym c.default.ensures) defaults_in_order
 
 pub returns : goal.returns
-returns c = c.kept.ensures ∙ ap settings_from c.default_config.ensures
+returns c = c.kept.ensures ∙ ap settings_from c.default.ensures

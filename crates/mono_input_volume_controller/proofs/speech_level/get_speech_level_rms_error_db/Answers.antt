@@ -1,7 +1,8 @@
 -- `get_speech_level_rms_error_db` meets its contract: targets that pass their test are in good order. Assumes nothing.
 use mathlib.Core.Path.{◌≡◌, sym, ap, ◌∙◌}
 use Rattle.numbers.proofs.Signs.{read, again}
-use Rattle.mono_input_volume_controller.specs.SpeechError.{speech_error_says, speech_error_of}
+use Rattle.numbers.specs.Said.{said}
+use Rattle.mono_input_volume_controller.specs.SpeechError.{speech_error_of}
 use Rattle.mono_input_volume_controller.proofs.Errors.{targets_out, targets_in}
 use Rattle.mono_input_volume_controller.proofs.Settings.{targets_good}
 use Rattle.mono_input_volume_controller.proofs.speech_level.get_speech_level_rms_error_db.Goals as goal
@@ -13,11 +14,11 @@ back s = λ i. speech_error_of s.args.speech_level (again s.args.target_range_mi
 
 pub returns-then-not-both_in_range : goal.returns-then-not-both_in_range
 returns-then-not-both_in_range c =
-    ap speech_error_says (targets_out _ _ _ (sym c.both_in_range.ensures ∙ c.if-not-both_in_range.true) ∙ back c.before.before)
+    ap said (targets_out _ _ _ (sym c.both_in_range.ensures ∙ c.if-not-both_in_range.true) ∙ back c.before.before)
 
 pub rms_error-requires : goal.rms_error-requires
 rms_error-requires c = targets_good _ _ (sym c.both_in_range.ensures ∙ c.if-not-both_in_range.false)
 
 pub returns : goal.returns
 returns c =
-    ap speech_error_says (targets_in _ _ _ (sym c.both_in_range.ensures ∙ c.if-not-both_in_range.false) _ c.rms_error.ensures ∙ back c.before.before.before)
+    ap said (targets_in _ _ _ (sym c.both_in_range.ensures ∙ c.if-not-both_in_range.false) _ c.rms_error.ensures ∙ back c.before.before.before)

@@ -1,16 +1,16 @@
 -- `frame_answers::stream::Stream::finish` meets its contract. Assumes nothing.
-use native.Mathlib.Omega.{arith}
-use lib.Seq.{length-take-le}
+use mathlib.Core.Path.{subst}
+use mathlib.Core.List.{List}
+use Prim.Native.Nat.{ℕ}
+use Rattle.frame_answers.specs.Answered.{AnsweredAs}
 use Rattle.frame_answers.proofs.Streams.{nothing_left, line_left}
 use Rattle.frame_answers.proofs.stream.Stream.finish.Goals as goal
 
-pub returns-then-begun-eq0 : goal.returns-then-begun-eq0
-returns-then-begun-eq0 c = nothing_left c.args.self c.if-begun-eq0.true
-
-pub slice_bounds-answer_line-end : goal.slice_bounds-answer_line-end
-slice_bounds-answer_line-end c =
-    omega (arith, length-take-le c.args.self.begun.length c.args.self.begun.bytes (omega (arith, c.requires.begun.within, c.requires.begun.places)))
+pub returns-then-self-eq0 : goal.returns-then-self-eq0
+returns-then-self-eq0 c = nothing_left c.args.self c.if-self-eq0.true
 
 pub returns : goal.returns
 returns c =
-    line_left c.args.self c.requires c.if-begun-eq0.false _ c.answer_line-answered.ensures _ c.answer.ensures
+    line_left c.args.self c.requires c.if-self-eq0.false _
+    (subst (λ (t : List ℕ). AnsweredAs c.args.self.controller t c.answer_line-answered.result) c.text.ensures c.answer_line-answered.ensures)
+    _ c.answer.ensures

@@ -5,4 +5,4 @@ use Rattle.frame_answers.proofs.stream.Stream.new.Goals as goal
 
 pub returns : goal.returns
 returns c =
-    starts_fresh _ _ _ _ c.new-made.ensures c.default_config.ensures c.new.ensures refl
+    starts_fresh _ _ _ _ c.new-made.ensures c.default.ensures c.new.ensures refl

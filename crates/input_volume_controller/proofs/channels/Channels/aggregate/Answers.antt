@@ -20,12 +20,12 @@ unfolding channels_of
 loop-i-preserved c = (
   omega arith,
   omega arith,
-  ap (λ (a : Aggregate). aggregate_from a (c.loop-i.i + 1) (drop (c.loop-i.i + 1) (channels_of c.args.self))) c.lower_of-a.ensures
-      ∙ aggregate_goes_on (channel_at c.args.self) c.args.self.count c.loop-i.a c.loop-i.i (omega arith)
+  ap (λ (a : Aggregate). aggregate_from a (c.loop-i.i + 1) (drop (c.loop-i.i + 1) (channels_of c.args.self))) c.lower_of-lowest.ensures
+      ∙ aggregate_goes_on (channel_at c.args.self) c.args.self.count c.loop-i.lowest c.loop-i.i (omega arith)
       ∙ c.loop-i.invariant.2,
 )
 
 pub returns : goal.returns
 unfolding channels_of
 returns c =
-    sym (aggregate_ends (channel_at c.args.self) c.args.self.count c.loop-i.a c.loop-i.i c.loop-i-test.false) ∙ c.loop-i.invariant.2
+    sym (aggregate_ends (channel_at c.args.self) c.args.self.count c.loop-i.lowest c.loop-i.i c.loop-i-test.false) ∙ c.loop-i.invariant.2

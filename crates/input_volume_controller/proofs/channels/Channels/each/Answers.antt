@@ -1,50 +1,26 @@
 -- `Channels::each` meets its contract: channel by channel. Assumes nothing.
-use mathlib.Core.Path.{◌≡◌, refl, subst}
-use Prim.Native.Nat.{ℕ, ◌<◌}
+use mathlib.Core.Path.{refl}
+use Prim.Native.Nat.{◌<◌}
 use native.Mathlib.Omega.{arith}
-use lib.ListN.{get_or}
-use Rattle.numbers.proofs.Arrays.{Replaced, replaced_none, replaced_more}
-use Rattle.mono_input_volume_controller.specs.MonoState.{Good}
+use Rattle.numbers.proofs.Arrays.{replaced_none, replaced_more}
+use Rattle.clipping_predictor.specs.Predictor.{max_channels}
 use Rattle.input_volume_controller.specs.Channels.{no_channel}
-use Rattle.input_volume_controller.proofs.ChannelLists.{CalledAt, all_called}
+use Rattle.input_volume_controller.proofs.ChannelLists.{each_done}
 use Rattle.input_volume_controller.proofs.channels.Channels.each.Goals as goal
-use Rattle.input_volume_controller.proofs.channels.Channels.each.Goals.{In-loop-i}
-
-below : (c : In-loop-i) → c.loop-i.i < 8
-below c = omega (arith, c.requires.high)
-
--- the channel is still the one that was handed in, and it is in good order
-unchanged : (c : In-loop-i) → get_or c.loop-i.c.items c.loop-i.i no_channel ≡ get_or c.args.self.items c.loop-i.i no_channel
-unchanged c = c.loop-i.invariant.2.rest c.loop-i.i (omega arith)
-
-good-channel : (c : In-loop-i) → Good (get_or c.args.self.items c.loop-i.i no_channel)
-good-channel c = c.requires.each c.loop-i.i (omega arith)
 
 pub loop-i-init : goal.loop-i-init
-loop-i-init c = (omega arith, refl, replaced_none no_channel (CalledAt (λ _. c.args.call)) c.args.self.items)
+loop-i-init g c = (refl, replaced_none no_channel _ c.args.self.items)
 
-pub offset_bounds-c-i : goal.offset_bounds-c-i
-offset_bounds-c-i c = omega (arith, below c)
-
-pub bounds-c-i : goal.bounds-c-i
-bounds-c-i c = below c
-
-pub call_one-requires : goal.call_one-requires
-call_one-requires c = rw (unchanged c.before) (good-channel c.before)
-
-pub offset_bounds-c-i-in-loop-i : goal.offset_bounds-c-i-in-loop-i
-offset_bounds-c-i-in-loop-i c = omega (arith, below c.before.before)
-
-pub bounds-c-i-in-loop-i : goal.bounds-c-i-in-loop-i
-bounds-c-i-in-loop-i c = below c.before.before
+pub call-requires : goal.call-requires
+call-requires g c =
+    let below : c.loop-i.i < max_channels = omega (arith, c.requires.good.high) in
+    rw (c.loop-i.invariant.1.rest c.loop-i.i (omega arith)) (c.requires.may_call c.loop-i.i _ below (c.requires.good.each c.loop-i.i c.loop-i-test.true))
 
 pub loop-i-preserved : goal.loop-i-preserved
-loop-i-preserved c = (
-  omega arith,
-  c.loop-i.invariant.1,
-  replaced_more no_channel (CalledAt (λ _. c.args.call)) c.args.self.items c.loop-i.i c.loop-i.c.items c.call_one.result c.loop-i.invariant.2 (omega (arith, below c.before.before, c.requires.places)) c.call_one.ensures,
+loop-i-preserved g c = (
+  c.loop-i.invariant.0,
+  replaced_more no_channel _ c.args.self.items c.loop-i.i c.loop-i.c.items c.call.result c.loop-i.invariant.1 (omega (arith, c.requires.good.high, c.requires.good.places)) c.call.ensures,
 )
 
 pub returns : goal.returns
-returns c =
-    all_called c.args.call c.args.self c.loop-i.c c.requires c.loop-i.invariant.1 (subst (λ (n : ℕ). Replaced no_channel (CalledAt (λ _. c.args.call)) n c.args.self.items c.loop-i.c.items) (omega arith) c.loop-i.invariant.2)
+returns g c = each_done c.args.self c.loop-i.c c.requires.good c.requires.keeps c.loop-i.invariant.0 c.loop-i.i c.loop-i-test.false c.loop-i.invariant.1

@@ -30,7 +30,7 @@ returns-then-not-self c =
     record {
       good = c.aggregate_channel_levels.ensures.good;
       count = same_count c.args.self _ c.aggregate_channel_levels.ensures (aggregate_count (control_of c.args.self));
-      does = λ p. recommend_off (seen c.before.before.before.before p) _ _ c.in-Volume.volume c.in-Volume.is (not-true _ c.if-not-self.true) ∙ beside p (ap volume (sym (to_z_pos w32 _ (omega arith)))) c.aggregate_channel_levels.ensures;
+      does = λ p. recommend_off (seen c.before.before.before.before p) _ _ c.in-Some.volume c.in-Some.is (not-true _ c.if-not-self.true) ∙ beside p (ap volume (sym (to_z_pos w32 _ (omega arith)))) c.aggregate_channel_levels.ensures;
     }
 
 pub returns : goal.returns
@@ -39,6 +39,6 @@ returns c =
     record {
       good = c.process_channels-processed.ensures.good;
       count = same_count c.args.self _ c.process_channels-processed.ensures (process_count (control_of c.args.self) _ _);
-      does = λ beside-it. recommend_on (seen c.before.before.before.before.before beside-it) _ _ c.in-Volume.volume c.in-Volume.is (not-false _ c.if-not-self.false)
+      does = λ beside-it. recommend_on (seen c.before.before.before.before.before beside-it) _ _ c.in-Some.volume c.in-Some.is (not-false _ c.if-not-self.false)
           ∙ beside beside-it (ap volume (sym (to_z_pos w32 _ (omega (arith, c.process_channels-processed.ensures.good.volume)) ∙ ap (λ (x : Control). pos x.volume) c.process_channels-processed.ensures.is))) c.process_channels-processed.ensures;
     }

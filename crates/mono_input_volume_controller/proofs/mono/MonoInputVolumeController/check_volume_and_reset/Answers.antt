@@ -9,4 +9,4 @@ returns-then-stays_muted c = becomes (check_muted _ (sym c.stays_muted.ensures �
 
 pub returns : goal.returns
 returns c =
-    becomes (check_done _ (sym c.stays_muted.ensures ∙ c.if-stays_muted.false) _ c.larger-input_volume.ensures) (good_checked _ c.requires)
+    becomes (check_done _ (sym c.stays_muted.ensures ∙ c.if-stays_muted.false) _ c.max-input_volume.ensures) (good_checked _ c.requires)

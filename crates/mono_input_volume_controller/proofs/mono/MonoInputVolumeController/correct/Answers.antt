@@ -8,11 +8,11 @@ use Rattle.mono_input_volume_controller.proofs.Kept.{becomes, good_corrected}
 use borrow.Author.Rules.{rules}
 use Rattle.mono_input_volume_controller.proofs.mono.MonoInputVolumeController.correct.Goals as goal
 
-pub returns-in-NoError : goal.returns-in-NoError
-returns-in-NoError c = becomes (correct_none _ _ c.in-NoError.is) (good_corrected _ _ c.requires)
+pub returns-in-None : goal.returns-in-None
+returns-in-None c = becomes (correct_none _ _ c.in-None.is) (good_corrected _ _ c.requires)
 
-pub returns-in-Db : goal.returns-in-Db
-returns-in-Db c =
-    let e : ℤ = c.in-Db.error in
+pub returns-in-Some : goal.returns-in-Some
+returns-in-Some c =
+    let e : ℤ = c.in-Some.error in
     let back : read e ≡ e = search rules in
-    becomes (c.update_input_volume.ensures.is ∙ ap (λ (z : ℤ). updated_input_volume z c.args.self) back ∙ correct_by _ _ _ c.in-Db.is) (good_corrected _ _ c.requires)
+    becomes (c.update_input_volume.ensures.is ∙ ap (λ (z : ℤ). updated_input_volume z c.args.self) back ∙ correct_by _ _ _ c.in-Some.is) (good_corrected _ _ c.requires)

@@ -13,8 +13,8 @@ returns-then-is_users c =
 
 pub returns-then-new-last : goal.returns-then-new-last
 returns-then-new-last c =
-    becomes (set_same _ _ c.if-here-eq0.false (sym c.is_users.ensures ∙ c.if-is_users.false) _ c.smaller-new.ensures c.if-new-last.true) (good_set _ _ c.requires)
+    becomes (set_same _ _ c.if-here-eq0.false (sym c.is_users.ensures ∙ c.if-is_users.false) _ c.min-new.ensures c.if-new-last.true) (good_set _ _ c.requires)
 
 pub returns : goal.returns
 returns c =
-    becomes (set_new _ _ c.if-here-eq0.false (sym c.is_users.ensures ∙ c.if-is_users.false) _ c.smaller-new.ensures c.if-new-last.false) (good_set _ _ c.requires)
+    becomes (set_new _ _ c.if-here-eq0.false (sym c.is_users.ensures ∙ c.if-is_users.false) _ c.min-new.ensures c.if-new-last.false) (good_set _ _ c.requires)

@@ -8,4 +8,4 @@ use Rattle.mono_input_volume_controller.proofs.mono.MonoInputVolumeController.ta
 
 pub returns : goal.returns
 returns c =
-    becomes (ap (λ (n : ℕ). counts 0 0 false (volumes n c.args.self.volume c.args.self.volume c.args.self)) c.larger.ensures) (good_taken c.args.self c.requires)
+    becomes (ap (λ (n : ℕ). counts 0 0 false (volumes n c.args.self.volume c.args.self.volume c.args.self)) c.max.ensures) (good_taken c.args.self c.requires)

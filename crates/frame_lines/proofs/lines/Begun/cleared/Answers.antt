@@ -1,7 +1,0 @@
--- `frame_lines::lines::Begun::cleared` meets its contract: of a length of 0 nothing is kept. Assumes nothing.
-use mathlib.Core.Path.{refl}
-use borrow.Author.Rules.{rules}
-use Rattle.frame_lines.proofs.lines.Begun.cleared.Goals as goal
-
-pub returns : goal.returns
-returns c = record { good = search rules; kept_is = refl }

@@ -1,9 +1,0 @@
--- `config::default_config` meets its contract. Assumes nothing.
-use mathlib.Core.Path.{refl}
-use lib.Ieee
-use Rattle.mono_input_volume_controller.specs.Config.{defaults}
-use Rattle.mono_input_volume_controller.proofs.config.default_config.Goals as goal
-
-pub returns : goal.returns
-unfolding defaults Ieee.of_bits
-returns c = refl
