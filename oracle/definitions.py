@@ -1,7 +1,7 @@
 #!/usr/bin/env python3
 """Wrong definitions against the claims: each must break the claim that rules it out.
 
-usage: definitions.py [FOLDER]     from the repository's root; FOLDER (a new one) keeps the copy that is worked in
+usage: definitions.py [FOLDER [NAME ..]]     from the repository's root; FOLDER (a new one) keeps the copy that is worked in; NAME is a wrong definition, all of them by default
 
 A must-fail edit cannot leave its crate, and a wrong definition is refused there already, where the functions no longer meet it. To see what the claims say by themselves, this works in a copy
 of the tree in which the crates below `claims` have their types and definitions alone: no functions, and no proofs but the laws that the claims rest on, which stand beside the claims. There each
@@ -27,7 +27,7 @@ LINES = "crates/frame_lines/specs/"
 PRELUDE = "use Rattle.std.specs.Prelude.{"
 MARKED = "reply = mark (differ clipped c.control e.low e.high);"
 RECOMMENDED = "reply = volume (pos (process_channels probability level c.control).volume);"
-APPLIED = "with_applied_input_volumes volumes c = aggregated (with_applied (Volume (lowest_of volumes)) (with_channels (each_given volumes c.channels) c))"
+APPLIED = "with_applied_input_volumes volumes c = aggregated (with_applied (Some (lowest_of volumes)) (with_channels (each_given volumes c.channels) c))"
 CONTROLLING = "(aggregate_of c.channels).channel c"
 THRESHOLD = "∷ in_unit c.clipped_ratio_threshold"
 RATIO = "(clipped_ratio_of (length c.control.channels) samples lent)"
@@ -42,7 +42,7 @@ EDITS = [
          "use Rattle.numbers.specs.declared.refusal.Refusal.{Refusal}\nuse Rattle.numbers.specs.declared.refusal.Refusal.TheVariants.{FrameSize}\n"),
         (IVC + "Calls.antt", "step c (frame most volumes samples lent) = analyze_input_audio most volumes samples lent c", "step c (frame most volumes samples lent) = refused_with FrameSize c")]),
     ("one fixed volume, of the volume step", "StarredCases", [
-        (GAIN + "VolumeUpdate.antt", "reached true volume = Volume (pos volume)", "reached true volume = Volume (pos 116)")]),
+        (GAIN + "VolumeUpdate.antt", "reached true volume = Ok (pos volume)", "reached true volume = Ok (pos 116)")]),
     # the highest volume is in every bound; so is an echo that is raised to the minimum
     ("one fixed volume, recommended", "ExampleLines", [
         (IVC + "Recommendation.antt", RECOMMENDED, "reply = volume (pos 255);")]),
@@ -60,8 +60,8 @@ EDITS = [
         (IVC + "Recommendation.antt", RECOMMENDED,
          "reply = volume (pos (at_first (at_startup c.control.channels) (process_channels probability level c.control).volume (max applied c.control.settings.least)));")]),
     ("none unasked", "NoneExactly", [
-        (IVC + "Recommendation.antt", "unless_none (Volume applied) probability level c = recommend_if c.control.used applied probability level c",
-         "unless_none (Volume applied) probability level c = record { reply = none; state = c }")]),
+        (IVC + "Recommendation.antt", "unless_none (Some applied) probability level c = recommend_if c.control.used applied probability level c",
+         "unless_none (Some applied) probability level c = record { reply = none; state = c }")]),
     # a ring counts as full from its first push on, with what its unused places hold: of ten frames, the ninth clipped, nine are no records of those frames
     ("a made-up stored count", "BrokenLeaves", [
         (RING + "Ring.antt", PRELUDE, PRELUDE + "◌++◌, replicate, "),
@@ -77,7 +77,7 @@ EDITS = [
         (LEVELS + "Rounding.antt", "half_up a c = (2 * a + c) / (2 * c)", "half_up a c = (2 * a + c - (1 - a / c % 2)) / (2 * c)")]),
     ("pending cleared with capture off", "NoneExactly", [
         (IVC + "Recommendation.antt", "state = record { control = aggregated c.control; predictor = c.predictor } }",
-         "state = record { control = with_applied Nothing (aggregated c.control); predictor = c.predictor } }")]),
+         "state = record { control = with_applied None (aggregated c.control); predictor = c.predictor } }")]),
     # then no record of before the initialise is left, with capture switched off in the list or not, and `capture_needed` is false
     ("predictor emptied at initialise", "PartsAreNeeded", [
         (IVC + "Calls.antt", "specs.Predictor.{", "specs.Predictor.{emptied, "),
@@ -85,11 +85,11 @@ EDITS = [
          "state = record { control = initialize c.control; predictor = emptied c.predictor } }")]),
     # ---- document 02 (ii)
     ("15 is tested before 14", "RefusedBelow", [
-        (PREDICTOR + "Settings.antt", "checked_if true false levels s = Refused PredictorCapacity", "checked_if true room false s = Refused PredictorLevels"),
-        (PREDICTOR + "Settings.antt", "checked_if true true false s = Refused PredictorLevels", "checked_if true false true s = Refused PredictorCapacity")]),
+        (PREDICTOR + "Settings.antt", "checked_if true false levels s = Err PredictorCapacity", "checked_if true room false s = Err PredictorLevels"),
+        (PREDICTOR + "Settings.antt", "checked_if true true false s = Err PredictorLevels", "checked_if true false true s = Err PredictorCapacity")]),
     ("14 where two faults stand", "RefusedBelow", [
-        (PREDICTOR + "Settings.antt", "checked_if false room levels s = Refused PredictorWindows", "checked_if above false levels s = Refused PredictorCapacity"),
-        (PREDICTOR + "Settings.antt", "checked_if true false levels s = Refused PredictorCapacity", "checked_if false true levels s = Refused PredictorWindows")]),
+        (PREDICTOR + "Settings.antt", "checked_if false room levels s = Err PredictorWindows", "checked_if above false levels s = Err PredictorCapacity"),
+        (PREDICTOR + "Settings.antt", "checked_if true false levels s = Err PredictorCapacity", "checked_if false true levels s = Err PredictorWindows")]),
     # a window of 64 and a sum of 65 would be 7
     ("a sum is held to 64 before it is compared", "RefusedBelow", [
         (PREDICTOR + "Settings.antt", PRELUDE, PRELUDE + "min, "),
@@ -98,8 +98,8 @@ EDITS = [
         (PREDICTOR + "Settings.antt", "specs.Natural.{", "specs.Natural.{within_of, "),
         (PREDICTOR + "Settings.antt", "at_least_of 0 c.reference_window_delay", "within_of 0 max_capacity c.reference_window_delay")]),
     ("beside a refusal stands a predictor with the channels asked for", "RefusedBelow", [
-        (PREDICTOR + "Predictor.antt", "(Checked.Refused cause) = unmade cause",
-         "(Checked.Refused cause) = record { answer = Refused cause; predictor = empty_predictor unmade_settings channels }")]),
+        (PREDICTOR + "Predictor.antt", "(Err cause) = unmade cause",
+         "(Err cause) = record { answer = Err cause; predictor = empty_predictor unmade_settings channels }")]),
     # ---- document 02 (x)
     ("sides 10 apart are near", "MarkedExactly", [
         (LEVELS + "Decibels.antt", "near_distance = 6", "near_distance = 10")]),
@@ -125,7 +125,7 @@ EDITS = [
         (IVC + "Frame.antt", "analyze_input_audio = frame_by predicted_by",
          "analyze_input_audio limits volumes samples lent c = frame_by (λ (a : Asked). predicted_by (record { level = c.control.volume; step = a.step; least = a.least; most = a.most })) limits volumes samples lent c")]),
     ("the controller's volume is not taken with a frame's volumes, so that the estimate reads the old one", "DependsOnOne", [
-        (IVC + "ControlCalls.antt", APPLIED, APPLIED.replace("aggregated (with_applied (Volume (lowest_of volumes)) (with_channels (each_given volumes c.channels) c))", "with_applied (Volume (lowest_of volumes)) (with_channels (each_given volumes c.channels) c)"))]),
+        (IVC + "ControlCalls.antt", APPLIED, APPLIED.replace("aggregated (with_applied (Some (lowest_of volumes)) (with_channels (each_given volumes c.channels) c))", "with_applied (Some (lowest_of volumes)) (with_channels (each_given volumes c.channels) c)"))]),
     ("a recommendation with capture off repeats the controller's volume", "DependsOnOne", [
         (IVC + "Recommendation.antt", "recommend_if false applied probability level c = record { reply = volume (pos applied);",
          "recommend_if false applied probability level c = record { reply = volume (pos c.control.volume);")]),
@@ -136,8 +136,8 @@ EDITS = [
         (PREDICTOR + "Predictor.antt", "push_each capacity (l ∷ levels) (r ∷ rings) = push capacity l r ∷ push_each capacity levels rings", "push_each capacity (l ∷ levels) (r ∷ rings) = r ∷ rings")]),
     ("beside a refused making stands a controller that channel 1 controls", "AsOneInCode", [
         (IVC + "Controller.antt", "specs.Control.{", "specs.Control.{with_volume, "),
-        (IVC + "Controller.antt", "unmade cause = record { answer = Refused cause; controller = fresh (settings_from defaults) 1 }",
-         "unmade cause = let c = fresh (settings_from defaults) 1 in record { answer = Refused cause; controller = record { control = with_volume 0 1 c.control; predictor = c.predictor } }")]),
+        (IVC + "Controller.antt", "unmade cause = record { answer = Err cause; controller = fresh (settings_from defaults) 1 }",
+         "unmade cause = let c = fresh (settings_from defaults) 1 in record { answer = Err cause; controller = record { control = with_volume 0 1 c.control; predictor = c.predictor } }")]),
     ("the library answers a recommendation with the controller's volume before it", "AsOneInLibrary", [
         (LIBRARY + "Calls.antt", "  pub volume : r.volume ≡ (volume_numbers says).volume", "  pub volume : r.volume ≡ pos self.volume")]),
     # ---- others
@@ -145,11 +145,11 @@ EDITS = [
     ("the wait is kept when the rings are emptied", "TwoFewerAreTooFew", [
         (IVC + "ControlCalls.antt", "aggregated (with_since 0 (each_channel (Clipping step) c))", "aggregated (each_channel (Clipping step) c)")]),
     ("the minimum is not applied", "Bounds", [
-        (IVC + "ControlCalls.antt", "raised_for (Volume (suc n)) least volume = max volume least", "raised_for (Volume (suc n)) least volume = volume")]),
+        (IVC + "ControlCalls.antt", "raised_for (Some (suc n)) least volume = max volume least", "raised_for (Some (suc n)) least volume = volume")]),
     ("a refused frame applies its volumes", "RefusedCalls", [
-        (IVC + "Frame.antt", "(Refused cause) volumes samples lent c = refused_with cause c", "(Refused cause) volumes samples lent c = refused_with cause (with_volumes_applied volumes c)")]),
+        (IVC + "Frame.antt", "(Err cause) volumes samples lent c = refused_with cause c", "(Err cause) volumes samples lent c = refused_with cause (with_volumes_applied volumes c)")]),
     ("a recommendation with capture on leaves the volume pending", "NoneExactly", [
-        (IVC + "Recommendation.antt", "control = with_applied Nothing (process_channels probability level c.control)", "control = process_channels probability level c.control")]),
+        (IVC + "Recommendation.antt", "control = with_applied None (process_channels probability level c.control)", "control = process_channels probability level c.control")]),
     ("the last channel controls", "EqualChannels", [
         (IVC + "Channels.antt", "lower_if false volume channel a = a", "lower_if false volume channel a = record { volume = a.volume; channel = channel }")]),
     ("a volume out of range is cause 9", "RefusedCalls", [
@@ -159,11 +159,11 @@ EDITS = [
     # ---- document 02 (iv)
     ("7 is tested before 6", "RefusedCalls", [
         (IVC + "Controller.antt", "-- the channel count is tested first, then the settings",
-         "unfoldable pub refused_first : Refusal → PredictorCheck.Checked → Making\nrefused_first cause (PredictorChecked.Refused other) = unmade other\n"
-         "refused_first cause (PredictorChecked.InOrder p) = unmade cause\n\n-- the channel count is tested first, then the settings"),
-        (IVC + "Controller.antt", "unfolding made_with\nmade_of Outside", "unfolding made_with refused_first\nmade_of Outside"),
-        (IVC + "Controller.antt", "made_of (Number channels) (Checked.Refused cause) predictor = unmade cause",
-         "made_of (Number channels) (Checked.Refused cause) predictor = refused_first cause (PredictorSettings.settings_of predictor)")]),
+         "unfoldable pub refused_first : Refusal → Result Predictor.Settings Refusal → Making\nrefused_first cause (Err other) = unmade other\n"
+         "refused_first cause (Ok p) = unmade cause\n\n-- the channel count is tested first, then the settings"),
+        (IVC + "Controller.antt", "unfolding made_with\nmade_of None", "unfolding made_with refused_first\nmade_of None"),
+        (IVC + "Controller.antt", "made_of (Some channels) (Err cause) predictor = unmade cause",
+         "made_of (Some channels) (Err cause) predictor = refused_first cause (PredictorSettings.settings_of predictor)")]),
     ("a predictor's windows are not tested where it is off", "RefusedCalls", [
         (PREDICTOR + "Settings.antt", PRELUDE, PRELUDE + "not, ◌||◌, "),
         (PREDICTOR + "Settings.antt", "checked_if (ltb window (delay + reference))", "checked_if (not c.enabled || ltb window (delay + reference))")]),
@@ -200,9 +200,9 @@ EDITS = [
         (PREDICTOR + "AllRings.antt", "low = max a.low b.low; high", "low = min a.low b.low; high")]),
     # ---- levels of several channels
     ("two channels of unequal length are measured", "RefusedBelow", [
-        (RING + "Level.antt", "measured_two_if (is_measured first && eqb (length first) (length second)) first second", "measured_two_if (is_measured first && true) first second")]),
+        (RING + "Level.antt", "measured_if (is_measured first && eqb (length first) (length second)) (two_records first second)", "measured_if (is_measured first && true) (two_records first second)")]),
     ("nine channels are refused for the frame's size", "RefusedBelow", [
-        (PREDICTOR + "FrameLevels.antt", "measuring_if false fits = Refused ChannelCount", "measuring_if false fits = Refused FrameSize")]),
+        (PREDICTOR + "FrameLevels.antt", "measuring_if false fits = Err ChannelCount", "measuring_if false fits = Err FrameSize")]),
     # ---- document 02 (xi)
     ("a threshold that rises with the clipped samples", "CountsAreUnread", [
         (PREDICTOR + "Estimate.antt", PRELUDE, PRELUDE + "◌+ℤ◌, "),
@@ -224,7 +224,7 @@ EDITS = [
     # ---- document 02 (xiv)
     ("every channel gets the lowest volume of the set", "EachTakesItsOwn", [
         (IVC + "ControlCalls.antt", "specs.Channels.{", "specs.Channels.{StreamAnalogLevel, "),
-        (IVC + "ControlCalls.antt", APPLIED, "with_applied_input_volumes volumes c = aggregated (with_applied (Volume (lowest_of volumes)) (each_channel (StreamAnalogLevel (lowest_of volumes)) c))")]),
+        (IVC + "ControlCalls.antt", APPLIED, "with_applied_input_volumes volumes c = aggregated (with_applied (Some (lowest_of volumes)) (each_channel (StreamAnalogLevel (lowest_of volumes)) c))")]),
     ("the first volume of a set is the applied one", "LowestIsApplied", [
         (IVC + "Volumes.antt", "lowest_of (volume ∷ volumes) = lowest_from volume volumes", "lowest_of (volume ∷ volumes) = volume")]),
     # of 15 and 10 with a minimum of 20 both are 20 then, and the first of them is channel 0
@@ -235,16 +235,16 @@ EDITS = [
          "volume = raised_for c.applied c.settings.least m.volume; wait = m.wait; frames = m.frames; speech = m.speech; first = m.first; probability = m.probability; ratio = m.ratio }) "
          "c.channels)).channel c")]),
     ("8 is tested before 20", "RefusedCalls", [
-        (IVC + "Frame.antt", "tested_as false inside fits within = Refused VolumeCount", "tested_as counted false fits within = Refused InputVolume"),
-        (IVC + "Frame.antt", "tested_as true false fits within = Refused InputVolume", "tested_as false true fits within = Refused VolumeCount")]),
+        (IVC + "Frame.antt", "tested_as false inside fits within = Err VolumeCount", "tested_as counted false fits within = Err InputVolume"),
+        (IVC + "Frame.antt", "tested_as true false fits within = Err InputVolume", "tested_as false true fits within = Err VolumeCount")]),
     ("the volumes before a bad one are taken", "RefusedCalls", [
-        (IVC + "Volumes.antt", "and_volume (Number volume) outside_set = outside_set", "and_volume (Number volume) outside_set = number_set (volume ∷ [])")]),
+        (IVC + "Volumes.antt", "and_volume (Some volume) outside_set = outside_set", "and_volume (Some volume) outside_set = number_set (volume ∷ [])")]),
     ("the first volume of a set is the first channel's, and the others are nobody's", "OneVolume", [
         (IVC + "Channels.antt", "called (StreamAnalogLevel volume) m ∷ each_given volumes ms", "called (StreamAnalogLevel volume) m ∷ ms")]),
     # ---- document 02 (viii)
     ("18 is tested before 9", "ShortFrames", [
-        (IVC + "Frame.antt", "tested_as true true false within = Refused FrameSize", "tested_as true true fits false = Refused FrameLimits"),
-        (IVC + "Frame.antt", "tested_as true true true false = Refused FrameLimits", "tested_as true true false true = Refused FrameSize")]),
+        (IVC + "Frame.antt", "tested_as true true false within = Err FrameSize", "tested_as true true fits false = Err FrameLimits"),
+        (IVC + "Frame.antt", "tested_as true true true false = Err FrameLimits", "tested_as true true false true = Err FrameSize")]),
     ("160 samples are too many for the spotter's entry", "ShortFrames", [
         (IVC + "Limits.antt", PRELUDE, PRELUDE + "ltb, "),
         (IVC + "Limits.antt", "&& leb samples most.samples", "&& ltb samples most.samples")]),
@@ -260,8 +260,8 @@ EDITS = [
     ("a frame that is refused with 18 applies its volumes", "ShortFrames", [
         (IVC + "Frame.antt", "-- a refusal hands the state back\n",
          "abbrev pub state_if : Bool → Controller → Controller → Controller\nstate_if true taken c = taken\nstate_if false taken c = c\n\n-- a refusal hands the state back\n"),
-        (IVC + "Frame.antt", "(Refused cause) volumes samples lent c = refused_with cause c",
-         "(Refused cause) volumes samples lent c = refused_with cause (state_if (eqb (number_of cause) 18) (with_volumes_applied volumes c) c)")]),
+        (IVC + "Frame.antt", "(Err cause) volumes samples lent c = refused_with cause c",
+         "(Err cause) volumes samples lent c = refused_with cause (state_if (eqb (number_of cause) 18) (with_volumes_applied volumes c) c)")]),
     # ---- document 02 (xii)
     # with a minimum of 20 and a level of 10 a channel whose last volume is 30 is moved to 15
     ("the classroom takes a clipped_level_min below the minimum", "ClassroomKeepsMinimum", [
@@ -272,7 +272,7 @@ EDITS = [
     ("the classroom takes any clipped-ratio threshold", "TwoPastsInClassroom", [
         (MONO + "Profile.antt", THRESHOLD, "∷ true")]),
     ("19 is tested before 6", "RefusedCalls", [
-        (IVC + "Profile.antt", "refused_outside (Refused cause) plain = plain", "refused_outside (Refused cause) plain = unmade ClassroomProfile")]),
+        (IVC + "Profile.antt", "refused_outside (Err cause) plain = plain", "refused_outside (Err cause) plain = unmade ClassroomProfile")]),
     ("the classroom refuses a threshold of 1", "RefusedCalls", [
         (MONO + "Profile.antt", THRESHOLD, "∷ (in_unit c.clipped_ratio_threshold && lib.Ieee.lt c.clipped_ratio_threshold (lib.Ieee.of_int lib.Ieee.binary32 (pos 1)))")]),
     ("the classroom takes a threshold that is not a number", "RefusedCalls", [
@@ -309,7 +309,7 @@ EDITS = [
         (LINES + "Forgiven.antt", "with_samples (a ∷ b ∷ c ∷ []) = a ∷ b ∷ c ∷ [] ∷ []", "with_samples (a ∷ b ∷ c ∷ []) = a ∷ b ∷ c ∷ []")]),
     ("a not-a-number is written as another", "OneSpelling", [
         (LINES + "Spelling.antt", PRELUDE, PRELUDE + "min, "),
-        (LINES + "Spelling.antt", "level_text (some bits) = digits_of 8 bits", "level_text (some bits) = digits_of 8 (min bits (2 ^ 32 - 2 ^ 22))")]),
+        (LINES + "Spelling.antt", "level_text (Some bits) = digits_of 8 bits", "level_text (Some bits) = digits_of 8 (min bits (2 ^ 32 - 2 ^ 22))")]),
     ("a sample is written without its sign", "OneSpelling", [
         (LINES + "Spelling.antt", "unsigned16 (negsuc n) = 2 ^ 16 - suc n", "unsigned16 (negsuc n) = suc n")]),
 ]
@@ -324,17 +324,17 @@ def rewritten(path, change):
 
 
 def below_claims():
-    """The crates that `claims` names in crates.txt."""
+    """The crates that `claims` names in crates.txt; a library of the kit is no crate here."""
     with open("crates.txt") as f:
-        return next(line for line in f if line.startswith("claims:")).split()[1:]
+        return [name for name in next(line for line in f if line.startswith("claims:")).split()[1:] if os.path.isdir("crates/" + name)]
 
 
 def types_alone(text):
-    """The source without its functions, and without the lines that name them; a private type is open, for the laws that speak of it and move to the claims."""
+    """The source without its functions, the lines that name them, and the ghost fields; a private type is open, for the laws that speak of it and move to the claims."""
     def types_of(m):
         kept = [name for name in re.findall(r"\w+(?: as \w+)?", m[2]) if name[0].isupper()]
         return f"{m[1]}{{{', '.join(kept)}}};\n" if kept else ""
-    text = re.sub(r"^ghost use [^;]*;\n", "", text, flags=re.M)
+    text = re.sub(r"^ghost use [^;]*;\n|^    ghost \w+: .*\n", "", text, flags=re.M)
     text = re.sub(r"^((?:pub )?use (?:\w+::)+)(\w+(?: as \w+)?|\{[^{}]*\});\n", types_of, text, flags=re.M)
     out, lines, i = [], text.split("\n"), 0
     while i < len(lines):
@@ -444,13 +444,14 @@ def main():
     proved, out = check("claims")
     if not proved:
         sys.exit("the copy itself is not proved:\n" + out)
+    edits = [edit for edit in EDITS if edit[0] in (sys.argv[2:] or edit)]
     survived = 0
-    for name, claim, changes in EDITS:
+    for name, claim, changes in edits:
         with replaced(changes):
             broken, words = verdict(check("claims")[1], claim, claims)
         print(f"{name}: {words}", flush=True)
         survived += not broken
-    print(f"{len(EDITS)} wrong definitions, {len(EDITS) - survived} break their claim")
+    print(f"{len(edits)} wrong definitions, {len(edits) - survived} break their claim")
     sys.exit(survived != 0)
 
 

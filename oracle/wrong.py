@@ -37,6 +37,8 @@ ERROR = re.compile(r"(\S+?):(\d+:\d+): error(\[\S+\])?: (.*)", re.S)
 # A goal that no proof file answers: Rattle's own search asks for values at which all that is known there holds and the goal does not. Where it ends in "no proof: expected ..; `search` did not
 # prove `returns`" without such values, no fact was seen to fail.
 MAY_BE_FALSE = re.compile(r"note: (`\S+`) of (\S+) may be false: (the known facts allow .*?)(?:: help: .*)?$", re.S)
+# The same at the goal's place in the source, where it names no values.
+HAS_VALUES = re.compile(r"note: (\S+?):(\d+:\d+): (it is not proved that .*; the facts known there allow values at which this goal is false.*)", re.S)
 # What it says of a search that asked `omega`.
 SEARCHED = re.compile(r"note: what antt said of a `search` in the proof that rattle made: (\S+?):(\d+:\d+): (.*)", re.S)
 
@@ -92,9 +94,9 @@ def counterexample(text):
 
 def refusal(out):
     """What `check` returned: the facts that no longer hold, as (path, place, words), and what else was said."""
-    facts, others, unfit = [], [], set()
+    facts, unnamed, others, unfit = [], [], [], set()
     for text in messages(out):
-        error, searched, false = ERROR.match(text), SEARCHED.match(text), MAY_BE_FALSE.match(text)
+        error, searched, false, has = (kind.match(text) for kind in (ERROR, SEARCHED, MAY_BE_FALSE, HAS_VALUES))
         if error and not re.search(FOLLOWS, text):
             said = error[1].split("/crates/")[-1], error[2], error[4]
             if re.search(SOUGHT, text, re.S):
@@ -108,9 +110,11 @@ def refusal(out):
             facts.append((searched[1].split("/crates/")[-1], searched[2], searched[3][searched[3].index("`omega`: the"):]))
         elif false:
             facts.append((false[2], false[1], false[3]))
+        elif has:
+            unnamed.append((has[1].split("/crates/")[-1], has[2], has[3]))
         elif re.match(r"fn \S+: (no proof|not proved)|rattle|rt: the library \S+ did not build", text):
             others.append(("", "", text))
-    return [fact for fact in facts if fact[0] not in unfit], others
+    return [fact for fact in facts + unnamed if fact[0] not in unfit], others
 
 
 def check(name):

@@ -1,15 +1,15 @@
--- The two ways through the flag of a speech level. Assumes nothing.
-use mathlib.Core.Path.{◌≡◌, refl}
+-- A speech level and its flag, as the program tests it. Assumes nothing.
+use mathlib.Core.Path.{◌≡◌, refl, ap}
+use mathlib.Core.Bool.{Bool, not}
 use Prim.Native.Nat.{ℕ, zero, suc}
+use native.Mathlib.Omega.{arith}
+use lib.Dec.{eqb}
 use lib.Ieee.{Float}
-use Rattle.std.specs.Prelude.{None, Some}
+use borrow.Author.Tests.{ne_eqb}
+use Rattle.std.specs.Bool.{then_some}
 use Rattle.agc2.specs.Answers.{speech_level_of}
 
-pub absent : {n : ℕ} (dbfs : Float) → n ≡ 0 → None ≡ speech_level_of n dbfs
+pub level_is : (present : ℕ) (dbfs : Float) → then_some (not (eqb present 0)) dbfs ≡ speech_level_of present dbfs
 unfolding speech_level_of
-absent dbfs e = rw e
-
-pub given : (n : ℕ) (dbfs : Float) → (n ≡ 0 → ⊥) → Some dbfs ≡ speech_level_of n dbfs
-unfolding speech_level_of
-given zero dbfs a = absurd (a refl)
-given (suc n) dbfs a = refl
+level_is zero dbfs = refl
+level_is (suc n) dbfs = ap (λ (b : Bool). then_some (not b) dbfs) (ne_eqb (suc n) 0 (λ e. omega arith))

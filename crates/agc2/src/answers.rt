@@ -12,6 +12,7 @@ use numbers::refusal::Refusal;
 #[repr(C)]
 #[derive(Clone, Copy)]
 pub struct Agc2Control {
+    // A number and the value beside it: C has no Option.
     pub present: u32,
     pub volume: i32,
     pub control: PlainControl,
@@ -62,6 +63,7 @@ pub struct VolumeNumbers {
     pub volume: i32,
 }
 
+// C's number of an answer: a function, since neither type of it is of this crate.
 // Out of line for the stack's sake.
 #[inline(never)]
 pub fn outcome_number(answer: Result<(), Refusal>) -> u32
@@ -73,49 +75,55 @@ pub fn outcome_number(answer: Result<(), Refusal>) -> u32
     }
 }
 
-pub fn frame_numbers(answer: Result<bool, Refusal>) -> FrameNumbers
-    ensures { result ≡ frame_numbers (analysis_says answer) }
-{
-    match answer {
-        Ok(near) => FrameNumbers {
-            refusal: 0,
-            near: u32::from(near),
-        },
-        Err(cause) => FrameNumbers {
-            refusal: cause.number(),
-            near: 0,
-        },
+impl From<Result<bool, Refusal>> for FrameNumbers {
+    ghost from_gives = { λ answer r. r ≡ frame_numbers (analysis_says answer) };
+
+    fn from(answer: Result<bool, Refusal>) -> FrameNumbers {
+        match answer {
+            Ok(near) => FrameNumbers {
+                refusal: 0,
+                near: u32::from(near),
+            },
+            Err(cause) => FrameNumbers {
+                refusal: cause.number(),
+                near: 0,
+            },
+        }
     }
 }
 
-pub fn volume_numbers(answer: Option<i32>) -> VolumeNumbers
-    ensures { result ≡ volume_numbers (recommendation_says answer) }
-{
-    match answer {
-        Some(volume) => VolumeNumbers { present: 1, volume },
-        None => VolumeNumbers {
-            present: 0,
-            volume: 0,
-        },
+impl From<Option<i32>> for VolumeNumbers {
+    ghost from_gives = { λ answer r. r ≡ volume_numbers (recommendation_says answer) };
+
+    fn from(answer: Option<i32>) -> VolumeNumbers {
+        match answer {
+            Some(volume) => VolumeNumbers { present: 1, volume },
+            None => VolumeNumbers {
+                present: 0,
+                volume: 0,
+            },
+        }
     }
 }
 
-pub fn record_of(stored: Option<Level>) -> Agc2Record
-    ensures { result ≡ record_of stored }
-{
-    match stored {
-        Some(level) => Agc2Record {
-            present: 1,
-            average: level.average,
-            max: level.max,
-            clipped: level.clipped,
-        },
-        None => Agc2Record {
-            present: 0,
-            average: 0.0,
-            max: 0.0,
-            clipped: 0,
-        },
+impl From<Option<Level>> for Agc2Record {
+    ghost from_gives = { λ stored r. r ≡ record_of stored };
+
+    fn from(stored: Option<Level>) -> Agc2Record {
+        match stored {
+            Some(level) => Agc2Record {
+                present: 1,
+                average: level.average,
+                max: level.max,
+                clipped: level.clipped,
+            },
+            None => Agc2Record {
+                present: 0,
+                average: 0.0,
+                max: 0.0,
+                clipped: 0,
+            },
+        }
     }
 }
 
@@ -141,18 +149,20 @@ fn found_metrics(found: Option<Level>) -> Agc2Metrics
     }
 }
 
-pub fn metrics_of(metrics: Result<Option<Level>, Refusal>) -> Agc2Metrics
-    ensures { result ≡ metrics_of (said metrics) }
-{
-    match metrics {
-        Ok(found) => found_metrics(found),
-        Err(cause) => Agc2Metrics {
-            refusal: cause.number(),
-            present: 0,
-            average: 0.0,
-            max: 0.0,
-            clipped: 0,
-        },
+impl From<Result<Option<Level>, Refusal>> for Agc2Metrics {
+    ghost from_gives = { λ metrics r. r ≡ metrics_of (said metrics) };
+
+    fn from(metrics: Result<Option<Level>, Refusal>) -> Agc2Metrics {
+        match metrics {
+            Ok(found) => found_metrics(found),
+            Err(cause) => Agc2Metrics {
+                refusal: cause.number(),
+                present: 0,
+                average: 0.0,
+                max: 0.0,
+                clipped: 0,
+            },
+        }
     }
 }
 
@@ -160,8 +170,5 @@ pub fn metrics_of(metrics: Result<Option<Level>, Refusal>) -> Agc2Metrics
 pub fn speech_level_of(present: u32, dbfs: f32) -> Option<f32>
     ensures { result ≡ speech_level_of present dbfs }
 {
-    if present == 0 {
-        return None;
-    }
-    Some(dbfs)
+    (present != 0).then_some(dbfs)
 }

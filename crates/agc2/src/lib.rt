@@ -19,13 +19,17 @@ ghost use Rattle.agc2.specs.Answers.{record_of, metrics_of, speech_level_of};
 ghost use Rattle.agc2.specs.Whole.{whole_of, beside_of};
 ghost use Rattle.agc2.specs.Calls.{CreatedIn, CreatedWith, CreatedOf, AnalyzedGivenOf, AnalyzedOf, AnalyzedEachOf, RecommendedOf};
 
-use crate::answers::{Agc2Control, Agc2Controller, Agc2Metrics, Agc2Record};
+use crate::answers::{
+    Agc2Control, Agc2Controller, Agc2Metrics, Agc2Record, FrameNumbers, VolumeNumbers,
+};
 use crate::given::Volumes;
 use crate::settings::{Agc2Config, Agc2PredictorConfig};
+use clipping_predictor::settings::ClippingPredictorConfig;
 use input_volume_controller::plain::{
     PlainControl, plain_control, plain_predictor, whole_control, whole_predictor,
 };
 use input_volume_controller::{InputVolumeController, Limits, PLAIN, SPOTTER};
+use mono_input_volume_controller::config::Config;
 
 pub mod answers;
 mod given;
@@ -78,8 +82,8 @@ pub fn agc2_new_in_profile_by_value(
     let made = InputVolumeController::in_profile(
         settings::profile_of(profile),
         num_capture_channels,
-        settings::config_of(config),
-        settings::predictor_config_of(predictor),
+        Config::from(config),
+        ClippingPredictorConfig::from(predictor),
     );
     let answer = made.answer;
     let controller = made.controller;
@@ -144,7 +148,7 @@ fn analyzed(
     let analyzed = c.analyze_volumes(most, set, samples_per_channel, samples);
     let answer = analyzed.answer;
     let handed = analyzed.controller;
-    let numbers = answers::frame_numbers(answer);
+    let numbers = FrameNumbers::from(answer);
     beside(numbers.refusal, numbers.near, handed)
 }
 
@@ -253,7 +257,7 @@ fn recommended(
     let recommended = whole_control(control).recommend_input_volume(speech_probability, level);
     let answer = recommended.answer;
     let handed = recommended.control;
-    let numbers = answers::volume_numbers(answer);
+    let numbers = VolumeNumbers::from(answer);
     Agc2Control {
         present: numbers.present,
         volume: numbers.volume,
@@ -283,7 +287,7 @@ pub fn agc2_recommend_input_volume_into(
 pub fn agc2_recommended_input_volume_by_value(control: PlainControl) -> i32
     ensures { result ≡ pos (control_of (whole_control control)).volume }
 {
-    control.volume as i32
+    i32::from(control.volume)
 }
 
 // The i-th record that a channel's ring stores, the newest being the 0th.
@@ -295,7 +299,7 @@ pub fn agc2_stored_record_by_value(
     requires { Good (whole_of controller) }
     ensures { result ≡ record_of (stored_at (get_or (view_of (whole_of controller)).predictor.rings channel []) i) }
 {
-    answers::record_of(whole(controller).stored_record(channel, i))
+    Agc2Record::from(whole(controller).stored_record(channel, i))
 }
 
 // The metrics over `num_items` records that a channel's ring stores, behind the newest `delay`. Refuses with 11.
@@ -308,5 +312,5 @@ pub fn agc2_compute_partial_metrics_by_value(
     requires { Good (whole_of controller) }
     ensures { result ≡ metrics_of (said (channel_metrics (view_of (whole_of controller)).predictor channel delay num_items)) }
 {
-    answers::metrics_of(whole(controller).compute_partial_metrics(channel, delay, num_items))
+    Agc2Metrics::from(whole(controller).compute_partial_metrics(channel, delay, num_items))
 }

@@ -10,11 +10,8 @@ fn take_channel(channels: usize, channel: usize, samples: &[i16], part: &mut [f3
     requires { (channel < channels) × (length part.old * channels ≤ length samples.now) }
     ensures { part.new ≡ channel_of channels (length part.old) samples.now channel }
 {
-    let moments = part.len();
-    let mut i = 0;
-    while i < moments {
+    for i in 0..part.len() {
         part[i] = samples[i * channels + channel] as f32;
-        i += 1;
     }
 }
 
@@ -23,6 +20,7 @@ fn separate(channels: usize, moments: usize, samples: &[i16], frame: &mut [f32])
     requires { (moments * channels ≤ length samples.now) × (moments * channels ≤ length frame.old) }
     ensures { frame.new ≡ joined (channel_of channels moments samples.now) channels ++ drop (moments * channels) frame.old }
 {
+    // The channel's number is what the samples are taken by.
     for channel in 0..channels {
         let from = channel * moments;
         let to = from + moments;
@@ -61,9 +59,7 @@ pub fn agc2_frame_of_unit(samples: &[f32], frame: &mut [f32])
     if frame.len() < count {
         return;
     }
-    let mut k = 0;
-    while k < count {
-        frame[k] = samples[k] * FULL_SCALE;
-        k += 1;
+    for (k, sample) in samples.iter().enumerate() {
+        frame[k] = *sample * FULL_SCALE;
     }
 }

@@ -38,39 +38,43 @@ pub struct Agc2PredictorConfig {
     pub crest_factor_margin: i32,
 }
 
-pub fn config_of(c: Agc2Config) -> Config
-    ensures { result ≡ config_of c }
-{
-    Config {
-        min_input_volume: c.min_input_volume,
-        clipped_level_min: c.clipped_level_min,
-        clipped_level_step: c.clipped_level_step,
-        clipped_ratio_threshold: c.clipped_ratio_threshold,
-        clipped_wait_frames: c.clipped_wait_frames,
-        enable_clipping_predictor: c.enable_clipping_predictor != 0,
-        target_range_max_dbfs: c.target_range_max_dbfs,
-        target_range_min_dbfs: c.target_range_min_dbfs,
-        update_input_volume_wait_frames: c.update_input_volume_wait_frames,
-        speech_probability_threshold: c.speech_probability_threshold,
-        speech_ratio_threshold: c.speech_ratio_threshold,
+impl From<Agc2Config> for Config {
+    ghost from_gives = { λ c r. r ≡ config_of c };
+
+    fn from(c: Agc2Config) -> Config {
+        Config {
+            min_input_volume: c.min_input_volume,
+            clipped_level_min: c.clipped_level_min,
+            clipped_level_step: c.clipped_level_step,
+            clipped_ratio_threshold: c.clipped_ratio_threshold,
+            clipped_wait_frames: c.clipped_wait_frames,
+            enable_clipping_predictor: c.enable_clipping_predictor != 0,
+            target_range_max_dbfs: c.target_range_max_dbfs,
+            target_range_min_dbfs: c.target_range_min_dbfs,
+            update_input_volume_wait_frames: c.update_input_volume_wait_frames,
+            speech_probability_threshold: c.speech_probability_threshold,
+            speech_ratio_threshold: c.speech_ratio_threshold,
+        }
     }
 }
 
-fn in_numbers(c: Config) -> Agc2Config
-    ensures { result ≡ in_numbers c }
-{
-    Agc2Config {
-        min_input_volume: c.min_input_volume,
-        clipped_level_min: c.clipped_level_min,
-        clipped_level_step: c.clipped_level_step,
-        clipped_ratio_threshold: c.clipped_ratio_threshold,
-        clipped_wait_frames: c.clipped_wait_frames,
-        enable_clipping_predictor: u32::from(c.enable_clipping_predictor),
-        target_range_max_dbfs: c.target_range_max_dbfs,
-        target_range_min_dbfs: c.target_range_min_dbfs,
-        update_input_volume_wait_frames: c.update_input_volume_wait_frames,
-        speech_probability_threshold: c.speech_probability_threshold,
-        speech_ratio_threshold: c.speech_ratio_threshold,
+impl From<Config> for Agc2Config {
+    ghost from_gives = { λ c r. r ≡ in_numbers c };
+
+    fn from(c: Config) -> Agc2Config {
+        Agc2Config {
+            min_input_volume: c.min_input_volume,
+            clipped_level_min: c.clipped_level_min,
+            clipped_level_step: c.clipped_level_step,
+            clipped_ratio_threshold: c.clipped_ratio_threshold,
+            clipped_wait_frames: c.clipped_wait_frames,
+            enable_clipping_predictor: u32::from(c.enable_clipping_predictor),
+            target_range_max_dbfs: c.target_range_max_dbfs,
+            target_range_min_dbfs: c.target_range_min_dbfs,
+            update_input_volume_wait_frames: c.update_input_volume_wait_frames,
+            speech_probability_threshold: c.speech_probability_threshold,
+            speech_ratio_threshold: c.speech_ratio_threshold,
+        }
     }
 }
 
@@ -78,37 +82,41 @@ fn in_numbers(c: Config) -> Agc2Config
 pub fn agc2_default_config() -> Agc2Config
     ensures { result ≡ in_numbers defaults }
 {
-    in_numbers(Config::default())
+    Agc2Config::from(Config::default())
 }
 
-pub fn predictor_config_of(c: Agc2PredictorConfig) -> ClippingPredictorConfig
-    ensures { result ≡ predictor_config_of c }
-{
-    ClippingPredictorConfig {
-        enabled: false,
-        mode: mode_of(c.mode),
-        window_length: c.window_length,
-        reference_window_length: c.reference_window_length,
-        reference_window_delay: c.reference_window_delay,
-        clipping_threshold: c.clipping_threshold,
-        crest_factor_margin: c.crest_factor_margin,
+impl From<Agc2PredictorConfig> for ClippingPredictorConfig {
+    ghost from_gives = { λ c r. r ≡ predictor_config_of c };
+
+    fn from(c: Agc2PredictorConfig) -> ClippingPredictorConfig {
+        ClippingPredictorConfig {
+            enabled: false,
+            mode: mode_of(c.mode),
+            window_length: c.window_length,
+            reference_window_length: c.reference_window_length,
+            reference_window_delay: c.reference_window_delay,
+            clipping_threshold: c.clipping_threshold,
+            crest_factor_margin: c.crest_factor_margin,
+        }
     }
 }
 
-fn predictor_in_numbers(c: ClippingPredictorConfig) -> Agc2PredictorConfig
-    ensures { result ≡ predictor_in_numbers c }
-{
-    let mode = c.mode;
-    Agc2PredictorConfig {
-        mode: mode_number(mode),
-        window_length: c.window_length,
-        reference_window_length: c.reference_window_length,
-        reference_window_delay: c.reference_window_delay,
-        clipping_threshold: c.clipping_threshold,
-        crest_factor_margin: c.crest_factor_margin,
+impl From<ClippingPredictorConfig> for Agc2PredictorConfig {
+    ghost from_gives = { λ c r. r ≡ predictor_in_numbers c };
+
+    fn from(c: ClippingPredictorConfig) -> Agc2PredictorConfig {
+        Agc2PredictorConfig {
+            mode: mode_number(c.mode),
+            window_length: c.window_length,
+            reference_window_length: c.reference_window_length,
+            reference_window_delay: c.reference_window_delay,
+            clipping_threshold: c.clipping_threshold,
+            crest_factor_margin: c.crest_factor_margin,
+        }
     }
 }
 
+// A number, since C's enums may hold any bits.
 // For everybody at 0, and for group teaching at any other number.
 pub fn profile_of(number: u32) -> Profile
     ensures { result ≡ profile_of number }
@@ -123,5 +131,5 @@ pub fn profile_of(number: u32) -> Profile
 pub fn agc2_default_predictor_config() -> Agc2PredictorConfig
     ensures { result ≡ predictor_in_numbers base_predictor }
 {
-    predictor_in_numbers(input_volume_controller::default_predictor_config())
+    Agc2PredictorConfig::from(input_volume_controller::default_predictor_config())
 }

@@ -5,7 +5,7 @@ use Rattle.frame_lines.specs.Line.{Fields, meaning}
 use Rattle.frame_lines.specs.Forgiven.{lenient_meaning}
 use Rattle.frame_lines.specs.Spelling.{spelling}
 
--- "Lines typed by hand arrive with capitals, several blanks, or blanks at the ends. A lenient reader takes these": None of them makes a difference. 'A' to 'Z' are 65 to 90, their small letters 32 more, and a blank is 32
+-- "Lines typed by hand arrive with capitals, several blanks, or blanks at the ends. A lenient reader takes these": none of them makes a difference. 'A' to 'Z' are 65 to 90, their small letters 32 more, and a blank is 32
 pub record BlanksAndCapitalsForgiven : Type 0 where
   pub capitals : (a b : List ℕ) (c : ℕ) → 65 ≤ c → c ≤ 90 → lenient_meaning (a ++ c ∷ b) ≡ lenient_meaning (a ++ (c + 32) ∷ b)
   pub several : (a b : List ℕ) → length (a ++ 32 ∷ b) < 2000 → lenient_meaning (a ++ 32 ∷ 32 ∷ b) ≡ lenient_meaning (a ++ 32 ∷ b)

@@ -72,10 +72,12 @@ abbrev pub hears : Option Levels → Bool
 hears (Some levels) = true
 hears None = false
 
+-- the level of each channel, and silence where none were measured
 abbrev pub items_in : Option Levels → List Level
 items_in (Some levels) = levels.items
 items_in None = silent
 
+-- the levels of a frame that is heard
 abbrev pub heard_if : Bool → List Level → Option Levels
 heard_if true items = Some (record { items = items })
 heard_if false items = None

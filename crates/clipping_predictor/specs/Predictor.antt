@@ -83,12 +83,21 @@ pub record Fresh (channels : ℕ) (s : Settings) (r : ClippingPredictor) : Type 
   pub good : Good r
   pub view : view_of r ≡ empty_predictor s channels
 
--- d is what to answer and to build, tested, and comes to that making
-pub record DecidedAs (making : Making) (d : Decided) : Type 0 where
+-- d is tested, and that predictor is built of it
+pub record BuildsAs (made : Predictor) (d : Decided) : Type 0 where
   pub low : 1 ≤ d.channels
   pub high : d.channels ≤ max_channels
   pub settings : Settings.Good d.settings
-  pub is : record { answer = d.answer; predictor = empty_predictor d.settings d.channels } ≡ making
+  pub is : empty_predictor d.settings d.channels ≡ made
+
+-- and what is decided is what to build, or why that making is refused
+abbrev pub DecidedAs : Making → Result Decided Refusal → Type 0
+DecidedAs making (Ok d) = (making.answer ≡ Ok tt) × BuildsAs making.predictor d
+DecidedAs making (Err cause) = making ≡ unmade cause
+
+-- and this is answered, with d built beside it
+abbrev pub AnsweredAs : Making → Result (Unit {0}) Refusal → Decided → Type 0
+AnsweredAs making answer d = (answer ≡ making.answer) × BuildsAs making.predictor d
 
 -- ---- frames
 

@@ -68,11 +68,10 @@ fn fresh(channels: usize, settings: Settings) -> ClippingPredictor
     requires { GoodSettings settings × (1 ≤ channels) × (channels ≤ max_channels) }
     ensures { Fresh channels settings result }
 {
+    // The casts of this file are proved to fit; `try_from` would have an arm that never runs.
     let made = ClippingPredictorLevelBuffer::new((settings.delay + settings.reference) as i32);
-    let ring = made.ring;
-    let rings = [ring; MAX_CHANNELS];
     ClippingPredictor {
-        rings,
+        rings: [made.ring; MAX_CHANNELS],
         channels,
         settings,
     }
@@ -83,13 +82,10 @@ fn fresh(channels: usize, settings: Settings) -> ClippingPredictor
 pub fn create_clipping_predictor(num_channels: i32, config: ClippingPredictorConfig) -> Created
     ensures { CreatedOf num_channels config result }
 {
-    let decided = making::decide(num_channels, config);
-    let answer = decided.answer;
-    let channels = decided.channels;
-    let settings = decided.settings;
+    let (answer, built) = making::answered(num_channels, config);
     Created {
         answer,
-        predictor: fresh(channels, settings),
+        predictor: fresh(built.channels, built.settings),
     }
 }
 
@@ -97,11 +93,8 @@ pub fn create_clipping_predictor(num_channels: i32, config: ClippingPredictorCon
 fn answer_of(drop: u8, near: bool) -> Estimate
     ensures { result ≡ drop_or drop near }
 {
-    if drop == 0 {
-        return Estimate { drop: None, near };
-    }
     Estimate {
-        drop: Some(drop as i32),
+        drop: (drop != 0).then_some(i32::from(drop)),
         near,
     }
 }
@@ -110,16 +103,7 @@ fn answer_of(drop: u8, near: bool) -> Estimate
 pub fn frame_fits(channels: u8, samples: usize, frame: &[f32]) -> bool
     ensures { result ≡ frame_fits channels samples frame.now }
 {
-    is_frame_size(samples) && frame.len() == (channels as usize) * samples
-}
-
-fn outcome_of(fits: bool) -> Result<(), Refusal>
-    ensures { result ≡ outcome_if fits }
-{
-    if fits {
-        return Ok(());
-    }
-    Err(Refusal::FrameSize)
+    is_frame_size(samples) && frame.len() == usize::from(channels) * samples
 }
 
 // What an estimate is asked with, each number in its range.
@@ -139,10 +123,7 @@ fn arguments_in_range(
     let step = within(1, 255, default_step).ok_or(Refusal::EstimateRange)?;
     let least = within(0, 255, min_mic_level).ok_or(Refusal::EstimateRange)?;
     let most = within(0, 255, max_mic_level).ok_or(Refusal::EstimateRange)?;
-    if most < least {
-        return Err(Refusal::EstimateRange);
-    }
-    if most < here {
+    if most < least || most < here {
         return Err(Refusal::EstimateRange);
     }
     Ok((
@@ -163,8 +144,13 @@ impl ClippingPredictor {
         requires { Good self }
         ensures { HeardOf self samples_per_channel frame.now question result }
     {
-        let on = self.settings.enabled;
-        let brought = bring(on, self.channels, samples_per_channel, frame, question);
+        let brought = bring(
+            self.settings.enabled,
+            self.channels,
+            samples_per_channel,
+            frame,
+            question,
+        );
         self.heard_levels(brought, question)
     }
 
@@ -184,6 +170,7 @@ impl ClippingPredictor {
         let channels = self.channels;
         let mut p = self;
         let mut e = modes::no_estimate();
+        // By place: the levels and the rings go together, and a ring is asked where it stands, of which no copy is made.
         for c in 0..channels {
             let level = levels.items[c];
             let old = p.rings[c];
@@ -205,10 +192,11 @@ impl ClippingPredictor {
         requires { Good self }
         ensures { AnalyzedOf self samples_per_channel frame.now result }
     {
-        let answer = outcome_of(frame_fits(self.channels as u8, samples_per_channel, frame));
-        let heard = self.heard(samples_per_channel, frame, None);
-        let predictor = heard.predictor;
-        Analyzed { answer, predictor }
+        let fits = frame_fits(self.channels as u8, samples_per_channel, frame);
+        Analyzed {
+            answer: fits.then_some(()).ok_or(Refusal::FrameSize),
+            predictor: self.heard(samples_per_channel, frame, None).predictor,
+        }
     }
 
     // By place: of rings that are written through a slice of theirs the check knows afterwards how many they are, and no more.
@@ -219,8 +207,7 @@ impl ClippingPredictor {
         let channels = self.channels;
         let mut p = self;
         for c in 0..channels {
-            let ring = p.rings[c];
-            p.rings[c] = ring.reset();
+            p.rings[c] = p.rings[c].reset();
         }
         p
     }
@@ -236,21 +223,15 @@ impl ClippingPredictor {
         requires { Good self }
         ensures { said result ≡ said (estimate_of (view_of self) (arguments_of self.channels channel level default_step min_mic_level max_mic_level)) }
     {
-        let given = arguments_in_range(
+        let (place, asked) = arguments_in_range(
             self.channels,
             channel,
             level,
             default_step,
             min_mic_level,
             max_mic_level,
-        );
-        match given {
-            Err(cause) => Err(cause),
-            Ok((place, asked)) => {
-                let ring = self.rings[place];
-                let e = modes::estimate_for(self.settings, ring, asked);
-                Ok(answer_of(e.drop, e.low < e.high))
-            }
-        }
+        )?;
+        let e = modes::estimate_for(self.settings, self.rings[place], asked);
+        Ok(answer_of(e.drop, e.low < e.high))
     }
 }

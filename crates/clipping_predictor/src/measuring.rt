@@ -6,7 +6,7 @@ ghost use Rattle.clipping_predictor_level_buffer.specs.Clipped.{clipped_in};
 ghost use Rattle.clipping_predictor.specs.Predictor.{max_channels, part_of, frame_fits};
 ghost use Rattle.clipping_predictor.specs.FrameLevels.{is_channel_count, levels_array, MeasuredOf};
 ghost use Rattle.clipping_predictor.specs.MostClipped.{most_clipped, most_counted};
-ghost use Rattle.clipping_predictor.specs.AllRings.{hearing, is_asked, BroughtBy};
+ghost use Rattle.clipping_predictor.specs.AllRings.{BroughtBy};
 
 use crate::modes::Asked;
 use crate::{MAX_CHANNELS, frame_fits};
@@ -41,6 +41,7 @@ fn levels_of(channels: usize, samples: usize, frame: &[f32]) -> Levels
     ensures { result.items ≡ levels_array channels samples frame.now }
 {
     let mut r = Levels::default();
+    // By the pair's number: two channels of it stand in one lent frame, and two levels in the answer.
     for pair in 0..channels / 2 {
         let c = 2 * pair;
         let first = part(samples, frame, c);
@@ -74,6 +75,7 @@ pub fn measure_channels(
     if !is_channel_count(channels) {
         return Err(Refusal::ChannelCount);
     }
+    // The casts of this file are proved to fit; `try_from` would have an arm that never runs.
     if !frame_fits(channels as u8, samples_per_channel, frame) {
         return Err(Refusal::FrameSize);
     }
@@ -98,6 +100,7 @@ fn most_clipped(first: usize, channels: usize, samples: usize, frame: &[f32]) ->
     ensures { result ≡ most_clipped first samples frame.now }
 {
     let mut most: u32 = 0;
+    // By the channel's number, which says where its part of the frame begins.
     for c in 0..first {
         most = most.max(clipped_in(part(samples, frame, c)));
     }
@@ -116,23 +119,8 @@ fn most_counted(first: usize, levels: Levels) -> u32
     most
 }
 
-// All of the channels, or none.
-fn hearing(all: bool, channels: usize) -> usize
-    ensures { result ≡ hearing all channels }
-{
-    if all { channels } else { 0 }
-}
-
-fn is_asked(question: Option<Asked>) -> bool
-    ensures { result ≡ is_asked question }
-{
-    match question {
-        None => false,
-        Some(_) => true,
-    }
-}
-
 // Of a predictor that is on all channels are measured; of one that is off their clipped samples are counted, if anything is asked. Out of line for the stack's sake.
+// The original's two arguments, the samples of each channel and the frame, are handed on as they came.
 #[inline(never)]
 pub(crate) fn bring(
     on: bool,
@@ -150,7 +138,7 @@ pub(crate) fn bring(
             clipped: 0,
         };
     }
-    let first = hearing(is_asked(question), channels);
+    let first = question.map_or(0, |_| channels);
     if !on {
         return Brought {
             levels: None,

@@ -138,10 +138,7 @@ fn nearest_whole(z: i32) -> u32
 fn near_whole(k: u32, z: i32, whole: i32) -> bool
     ensures { result ≡ (ltb k max_gain_change && near (Finite z) (Finite whole)) }
 {
-    if k < CLIPPING_PREDICTOR_MAX_GAIN_CHANGE {
-        return are_near(Decibels::Finite(z), Decibels::Finite(whole));
-    }
-    false
+    k < CLIPPING_PREDICTOR_MAX_GAIN_CHANGE && are_near(Decibels::Finite(z), Decibels::Finite(whole))
 }
 
 // The ceiling is taken as a test against the nearest whole dB.
@@ -150,6 +147,7 @@ fn ceiling(a: Asked, z: i32) -> Estimated
     ensures { result ≡ estimated (ceiling_tree a z (nearest_whole z)) }
 {
     let k = nearest_whole(z);
+    // Proved to fit; `try_from` would have an arm that never runs.
     let whole = (k * 1000) as i32;
     let near = near_whole(k, z, whole);
     if near {
@@ -181,12 +179,9 @@ impl Prediction {
     fn event(self) -> Estimated
         ensures { result ≡ estimated (crest_tree self.settings.margin self.window self.reference self.asked) }
     {
-        let s = self.settings;
-        let a = self.asked;
-        let reference = self.reference;
         let crest = compute_crest_factor(self.window);
-        let wanted = compute_crest_factor(reference) - Decibels::Finite(s.margin);
-        let held = sure(drop_by(a, a.step));
+        let wanted = compute_crest_factor(self.reference) - Decibels::Finite(self.settings.margin);
+        let held = sure(drop_by(self.asked, self.asked.step));
         let near = are_near(crest, wanted);
         after_test(crest < wanted, near, held, sure(0))
     }
@@ -194,10 +189,8 @@ impl Prediction {
     fn predict_clipping_event(self) -> Estimated
         ensures { result ≡ estimated (event_tree self.settings.threshold self.settings.margin self.window self.reference self.asked) }
     {
-        let s = self.settings;
-        let window = self.window;
-        let peak = float_s16_to_dbfs(window.max);
-        let threshold = Decibels::Finite(s.threshold);
+        let peak = float_s16_to_dbfs(self.window.max);
+        let threshold = Decibels::Finite(self.settings.threshold);
         let near = are_near(peak, threshold);
         let quiet = peak <= threshold;
         if quiet && !near {
@@ -225,10 +218,8 @@ impl Prediction {
         requires { (projected : Decibels) → Bounded projected_limit projected → F.pre above projected }
         ensures { (t : Tree ℕ) → ((r : Estimated) → F.post above (projected_peak self.window self.reference) r → r ≡ estimated t) → result ≡ estimated (peak_tree self.settings.threshold self.window self.reference t) }
     {
-        let s = self.settings;
-        let window = self.window;
-        let level = float_s16_to_dbfs(window.max);
-        let edge = whole_db(s.threshold);
+        let level = float_s16_to_dbfs(self.window.max);
+        let edge = whole_db(self.settings.threshold);
         let threshold = Decibels::Finite(edge);
         let near = are_near(level, threshold);
         let quiet = level <= threshold;
@@ -242,8 +233,7 @@ impl Prediction {
         ensures { result ≡ estimated (mode_tree self.settings.mode self.settings self.window self.reference self.asked) }
     {
         let a = self.asked;
-        let mode = self.settings.mode;
-        match mode {
+        match self.settings.mode {
             ClippingPredictorMode::ClippingEventPrediction => self.predict_clipping_event(),
             ClippingPredictorMode::AdaptiveStepClippingPeakPrediction => {
                 self.predict_clipping_peak(|projected| adaptive(a, projected))
@@ -270,6 +260,7 @@ fn from_windows(
     requires { Good s }
     ensures { result ≡ estimated (windows_tree s a newest older) }
 {
+    // Not the pattern `Ok(Some(window))`: where it does not fit, the check knows that there is an `Ok`, and not that there is no level in it.
     let Some(window) = newest.unwrap_or(None) else {
         return no_estimate();
     };
@@ -290,10 +281,7 @@ pub fn estimate_for(s: Settings, ring: ClippingPredictorLevelBuffer, a: Asked) -
     requires { GoodFor s ring }
     ensures { result ≡ estimated (estimate_tree s (stored ring) a) }
 {
-    if !s.enabled {
-        return no_estimate();
-    }
-    if a.level <= a.least {
+    if !s.enabled || a.level <= a.least {
         return no_estimate();
     }
     let newest = ring.partial_metrics(0, s.window);
@@ -311,10 +299,7 @@ pub fn answered(
     requires { GoodFor s ring }
     ensures { result ≡ estimated_for question s (stored ring) }
 {
-    match question {
-        None => no_estimate(),
-        Some(a) => estimate_for(s, ring, a),
-    }
+    question.map_or(no_estimate(), |a| estimate_for(s, ring, a))
 }
 
 // The estimates of two channels.

@@ -68,6 +68,7 @@ fn with_sample(peak: f32, sample: f32) -> f32
 }
 
 impl Peaks {
+    // One turn's four samples, by the names of the pattern that takes them off the frame.
     fn with(self, w: f32, x: f32, y: f32, z: f32) -> Peaks
         ensures { result ≡ with_four self w x y z }
     {
@@ -111,10 +112,9 @@ impl Taking {
         requires { self.clipped ≤ max_samples_per_channel }
         ensures { result ≡ four_taken self w x y z }
     {
-        let peaks = self.peaks;
         Taking {
             sum: self.sum + w * w + x * x + y * y + z * z,
-            peaks: peaks.with(w, x, y, z),
+            peaks: self.peaks.with(w, x, y, z),
             clipped: counted(self.clipped, w, x, y, z),
         }
     }
@@ -123,10 +123,9 @@ impl Taking {
     fn running(self) -> Running
         ensures { result ≡ running_of self }
     {
-        let peaks = self.peaks;
         Running {
             sum: self.sum,
-            peak: peaks.largest(),
+            peak: self.peaks.largest(),
             clipped: self.clipped,
         }
     }
@@ -141,7 +140,7 @@ fn one_by_one(from: Running, rest: &[f32]) -> Running
     let mut peak = from.peak;
     let mut clipped = from.clipped;
     for x in rest {
-        sum = sum + *x * *x;
+        sum += *x * *x;
         peak = with_sample(peak, *x);
         clipped += count_of(*x);
     }
@@ -153,7 +152,7 @@ fn level_from(all: Running, count: u16) -> Level
     ensures { result ≡ level_from all count }
 {
     Level {
-        average: all.sum / (count as f32),
+        average: all.sum / f32::from(count),
         max: all.peak,
         clipped: all.clipped,
     }
@@ -170,6 +169,7 @@ fn frame_record(samples: &[f32]) -> Level
         t = t.with(*w, *x, *y, *z);
         rest = tail;
     }
+    // The casts of this file are proved to fit; `try_from` would have an arm that never runs.
     level_from(one_by_one(t.running(), rest), samples.len() as u16)
 }
 

@@ -96,8 +96,7 @@ impl ClippingPredictorLevelBuffer {
                 ring: ClippingPredictorLevelBuffer::empty(1),
             };
         }
-        let wanted = within(1, MAX_CAPACITY, capacity);
-        let Some(n) = wanted else {
+        let Some(n) = within(1, MAX_CAPACITY, capacity) else {
             return Made {
                 answer: Err(Refusal::RingRange),
                 ring: ClippingPredictorLevelBuffer::empty(1),
@@ -123,6 +122,7 @@ impl ClippingPredictorLevelBuffer {
         requires { Good self }
         ensures { result ≡ pos (length (stored self)) }
     {
+        // The casts of this file are proved to fit; `try_from` would have an arm that never runs.
         self.size as i32
     }
 
@@ -169,19 +169,17 @@ impl ClippingPredictorLevelBuffer {
         requires { Good self }
         ensures { PushedOf clipped self (offered average max clipped) result }
     {
-        let counted = within(0, MAX_SAMPLES_PER_CHANNEL, clipped);
-        let Some(n) = counted else {
+        let Some(n) = within(0, MAX_SAMPLES_PER_CHANNEL, clipped) else {
             return AfterPush {
                 ring: self,
                 answer: Err(Refusal::RingRange),
             };
         };
-        let level = Level {
+        self.push_level(Level {
             average,
             max,
             clipped: n as u32,
-        };
-        self.push_level(level)
+        })
     }
 
     // The i-th record, counted from the newest as 0.
@@ -189,11 +187,7 @@ impl ClippingPredictorLevelBuffer {
         requires { Good self }
         ensures { result ≡ stored_at (stored self) i }
     {
-        if self.size <= i {
-            return None;
-        }
-        let at = place(self.capacity, self.tail, i);
-        Some(self.data[at])
+        (i < self.size).then(|| self.data[place(self.capacity, self.tail, i)])
     }
 
     // The metrics over `items` stored records, of which the newest lies `delay` places behind the tail.
@@ -204,16 +198,16 @@ impl ClippingPredictorLevelBuffer {
         let mut sum = 0.0f32;
         let mut max = 0.0f32;
         let mut clipped: u32 = 0;
+        // By place: the records are no slice, since the ring goes round.
         for i in 0..items {
             let at = place(self.capacity, self.tail, delay + i);
             let level = self.data[at];
-            sum = sum + level.average;
+            sum += level.average;
             max = larger(max, level.max);
             clipped += level.clipped;
         }
-        let count = items as u16;
         Level {
-            average: sum / (count as f32),
+            average: sum / f32::from(items as u16),
             max,
             clipped,
         }
@@ -224,13 +218,7 @@ impl ClippingPredictorLevelBuffer {
         requires { Good self }
         ensures { said result ≡ said (partial_metrics self.capacity (stored self) delay items) }
     {
-        if items < 1 {
-            return Err(Refusal::RingRange);
-        }
-        if self.capacity < items {
-            return Err(Refusal::RingRange);
-        }
-        if self.capacity - items < delay {
+        if items < 1 || self.capacity < items || self.capacity - items < delay {
             return Err(Refusal::RingRange);
         }
         if self.size < delay + items {

@@ -11,6 +11,7 @@ use frame_lines::line::{Frame, MOST_SAMPLES, parse};
 use input_volume_controller::InputVolumeController;
 use numbers::refusal::Refusal;
 
+// A refusal has a controller too, so it stands beside the reply and not in it.
 // What a line is answered, and the controller after it.
 #[derive(Clone, Copy)]
 pub struct Answered {
@@ -40,6 +41,7 @@ fn recommended(
     Answered {
         controller: next,
         reply: Ok(Recommended {
+            // Proved to fit; `try_from` would have an arm that never runs.
             volume: volume.unsigned_abs() as u8,
             near,
         }),

@@ -15,6 +15,7 @@ use input_volume_controller::InputVolumeController;
 use mono_input_volume_controller::config::Config;
 use numbers::refusal::Refusal;
 
+// Its good order is a clause and no field: a caller may write any length of what is begun.
 #[derive(Clone, Copy)]
 pub struct Stream {
     pub controller: InputVolumeController,
@@ -29,6 +30,7 @@ pub struct Fed {
     pub written: usize,
 }
 
+// A refusal has a stream too, so it stands beside the reply and not in it.
 // What the end of a line leads to: the stream after it, and the answer.
 #[derive(Clone, Copy)]
 struct Ended {
@@ -40,10 +42,7 @@ struct Ended {
 fn sized(frame: Frame) -> Result<Frame, Refusal>
     ensures { result ≡ sized_of frame }
 {
-    if frame.count < 1 {
-        return Err(Refusal::FrameSize);
-    }
-    if MAX_SAMPLES_PER_CHANNEL < frame.count {
+    if frame.count < 1 || MAX_SAMPLES_PER_CHANNEL < frame.count {
         return Err(Refusal::FrameSize);
     }
     Ok(frame)
@@ -109,6 +108,7 @@ impl Stream {
         let mut at = 0;
         let mut written = 0;
         let mut room = out.len() / LONGEST;
+        // From line to line, as long as there is room: no index is counted.
         while 0 < room {
             let Some(end) = next_feed(piece, at) else {
                 let stream = Stream { controller, begun };

@@ -63,7 +63,7 @@ used_some [] piece out h m = used_some_if (length out) piece (ended piece) refl 
 used_some (b ∷ k) piece out h m = omega (arith, ap (λ (t : Bool). used_if t (up_to_feed (first_of 10 piece) piece)) (le-leb longest_respelling (length out) h), end_some (first_of 10 piece) piece m)
 
 module _ (k piece before after : List ℕ) (r : Fed) (f : FedAs k piece before after r) where
-  -- with room for the longest answer Some of a piece is used
+  -- with room for the longest answer some of a piece is used
   pub some_used : longest_respelling ≤ length before → 0 < length piece → 0 < r.used
   some_used h m = omega (arith, f.used_is, used_some k piece before h m)
 

@@ -25,7 +25,7 @@ abbrev pub begins_field : List ℕ → Bool
 begins_field [] = false
 begins_field (c ∷ text) = not (is_space c)
 
--- a character before a text, of which the fields are given: a blank is in None, and any other goes on with a field that the text begins with, or is one
+-- a character before a text, of which the fields are given: a blank is in none, and any other goes on with a field that the text begins with, or is one
 abbrev pub field_if : Bool → Bool → ℕ → List (List ℕ) → List (List ℕ)
 field_if true begins c fields = fields
 field_if false false c fields = (c ∷ []) ∷ fields

@@ -29,7 +29,7 @@ abbrev pub read_if : Bool → List ℕ → List ℤ
 read_if true line = samples_in (sample_text line)
 read_if false line = []
 
--- the samples that are read of a line: those of a malformed one as far as they go, and None where its other fields are malformed
+-- the samples that are read of a line: those of a malformed one as far as they go, and none where its other fields are malformed
 unfoldable pub samples_read : List ℕ → List Float
 samples_read line = map sample_of (read_if (is_framed line) line)
 

@@ -50,7 +50,7 @@ abbrev pub used_if : Bool → ℕ → ℕ
 used_if true n = n
 used_if false n = 0
 
--- how much is used of a piece that ends Some lines and then begins another: one line after the other, as long as there is room for the longest answer
+-- how much is used of a piece that ends some lines and then begins another: one line after the other, as long as there is room for the longest answer
 unfoldable pub used_from : ℕ → List (List ℕ) → List ℕ → ℕ
 used_from room [] rest = used_if (has_room room) (length rest)
 used_from room (line ∷ lines) rest = used_if (has_room room) (suc (length line) + used_from (room - length (text_of_line line)) lines rest)
@@ -81,7 +81,7 @@ finished_if false k = []
 abbrev pub finished_text : List ℕ → List ℕ → List ℕ
 finished_text k out = text_of_lines (finished_if (has_room (length out)) k)
 
--- what the private function says of lines that lie within a piece: no more is used than ends Some, and behind that there is no room for another, or no other line ends
+-- what the private function says of lines that lie within a piece: no more is used than ends some, and behind that there is no room for another, or no other line ends
 pub record WholeAs (piece before after : List ℕ) (r : Whole) : Type 0 where
   pub within : r.used ≤ length piece
   pub begins : begun (take r.used piece) ≡ []

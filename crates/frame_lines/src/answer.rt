@@ -56,6 +56,7 @@ fn number_text(n: u32) -> Text
     ensures { result ≡ held (number_text n) }
 {
     if n < 10 {
+        // The casts of this file are proved to fit; `try_from` would have an arm that never runs.
         let digit = b'0' + (n as u8);
         return Text {
             bytes: [b'!', b' ', digit, b'\n', 0],

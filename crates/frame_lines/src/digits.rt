@@ -67,5 +67,6 @@ pub fn number_of_four(text: &[u8], at: usize) -> u16
     let word = word_of(text, at);
     let values = (word & 0x0f0f_0f0f) + (word & 0x4040_4040) / 64 * 9;
     let pairs = values * 16 + values / 256;
+    // Proved to fit; `try_from` would have an arm that never runs.
     (pairs % 256 * 256 + pairs / 65536 % 256) as u16
 }

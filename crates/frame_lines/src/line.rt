@@ -134,6 +134,7 @@ fn read_samples(text: &[u8], samples: &mut [f32]) -> usize
     ensures { ReadAs text.now samples.old samples.new result }
 {
     let count = sample_count(text);
+    // By place: four characters of the text are one sample.
     for n in 0..count.min(samples.len()) {
         let at = n * 4;
         samples[n] = sample(number_of_four(text, at));

@@ -48,6 +48,7 @@ fn whole_lines(piece: &[u8], out: &mut [u8]) -> Whole
 {
     let mut used = 0;
     let mut written = 0;
+    // From line to line, as long as there is room: no index is counted.
     while LONGEST_RESPELLING <= out.len() - written {
         let Some(end) = next_feed(piece, used) else {
             return Whole { used, written };

@@ -8,7 +8,7 @@ use crate::line::{MOST_CHARACTERS, is_well_formed};
 use crate::search::next_of;
 
 // Why a line is not spelled: it is malformed, or the slice is no longer than the line.
-#[derive(Clone, Copy)]
+#[derive(Clone, Copy, Debug, PartialEq, Eq)]
 pub enum Unspelled {
     Malformed,
     NoRoom,
@@ -63,6 +63,7 @@ fn put_fields(line: &[u8], out: &mut [u8]) -> Walked
     let mut count = 0;
     let mut length = 0;
     let mut from = behind_blanks(line, 0);
+    // From field to field: no index is counted.
     while from < line.len() {
         let end = field_end(line, from);
         put_small(out, length, &line[from..end]);

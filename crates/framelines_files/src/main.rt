@@ -27,6 +27,7 @@ fn answer_part<R: Print>(rt: &R, begun: Stream, text: &[u8]) -> Stream
     let mut out = [0u8; 12];
     let mut stream = begun;
     let mut at = 0;
+    // From piece to piece: a place decides how long the next one is.
     while at < text.len() {
         let end = piece_end(at, text.len());
         let fed = stream.feed(&text[at..end], &mut out);
@@ -52,6 +53,7 @@ fn answer_files<R: Print>(rt: &R, begun: Stream, s: &[u8]) -> Stream
 {
     let mut stream = begun;
     let mut rest = s;
+    // From file to file: no index is counted.
     while let Some(end) = rest.iter().position(|c| *c == SEPARATOR) {
         stream = answer_part(rt, stream, &rest[..end]);
         finished(rt, stream);

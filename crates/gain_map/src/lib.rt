@@ -31,7 +31,8 @@ fn packed_differences(block: u8) -> u64
 fn difference_above(volume: u8) -> u32
     ensures { result ≡ difference volume }
 {
-    let places = 2 * (volume % 32) as u32;
+    let places = 2 * (volume % 32);
+    // The casts of this file are proved to fit; `try_from` would have an arm that never runs.
     ((packed_differences(volume / 32) >> places) & 3) as u32
 }
 
@@ -99,5 +100,5 @@ pub fn compute_volume_update(
     if max < volume {
         return Err(Refusal::EstimateRange);
     }
-    Ok(walk_from(gain_error_db, volume as u8, min as u8, max as u8) as i32)
+    Ok(i32::from(walk_from(gain_error_db, volume as u8, min as u8, max as u8)))
 }

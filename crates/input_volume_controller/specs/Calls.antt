@@ -94,6 +94,7 @@ abbrev pub bytes_if : Result (Unit {0}) Refusal → List ℕ → Result (List �
 bytes_if (Ok tt) levels = Ok levels
 bytes_if (Err cause) levels = Err cause
 
+-- the volumes that a frame applies: those of its set, where no cause refuses the frame
 abbrev pub accepted_volumes : Limits → ℕ → VolumeSet → ℕ → List Float → Result (List ℕ) Refusal
 accepted_volumes most channels set samples lent = bytes_if (set_outcome most channels set samples lent) (bytes_in set.levels)
 

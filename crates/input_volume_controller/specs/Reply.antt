@@ -15,7 +15,7 @@ pub data Reply : Type 0 where
   -- an initialise or a switch
   done : Reply
 
--- document 01's words for each case of the answer enums
+-- document 01's words for each case of an answer: a frame's here, a recommendation's below
 abbrev pub analysis_says : Result Bool Refusal → Reply
 analysis_says (Ok near) = mark near
 analysis_says (Err cause) = refusal (number_of cause)

@@ -20,6 +20,7 @@ abbrev pub bytes_in : Option (List ℕ) → List ℕ
 bytes_in (Some levels) = levels
 bytes_in None = []
 
+-- "each from 0 to 255": whether there are bytes for all volumes of a set
 abbrev pub is_inside : Option (List ℕ) → Bool
 is_inside (Some levels) = true
 is_inside None = false

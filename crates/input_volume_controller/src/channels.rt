@@ -18,6 +18,7 @@ use mono_input_volume_controller::mono::{
 #[repr(C)]
 #[derive(Clone, Copy)]
 pub struct Channels {
+    // by the channel's number, as C's memory has them
     pub items: [MonoInputVolumeController; MAX_CHANNELS],
     pub count: usize,
 }
@@ -35,7 +36,7 @@ fn fresh_channel(s: Settings) -> MonoInputVolumeController
     ensures { BecomesChannel (created s) result }
 {
     MonoInputVolumeController {
-        floor: s.floor as u32,
+        floor: u32::from(s.floor),
         wait: s.update_wait,
         frames: 0,
         speech: 0,
@@ -107,6 +108,7 @@ impl Channels {
             volume: self.items[0].volume,
             channel: 0,
         };
+        // by index: the channel's number is part of the answer
         for i in 1..self.count {
             lowest = lower_of(lowest, self.items[i].volume, i);
         }

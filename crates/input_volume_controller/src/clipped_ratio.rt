@@ -7,5 +7,6 @@ pub fn compute_clipped_ratio(most: u32, samples: usize) -> f32
     requires { (most ≤ samples) × (samples ≤ max_samples_per_channel) }
     ensures { result ≡ ratio_of most samples }
 {
+    // Counts of at most 480, which a float holds exactly; From has no f32 of a u32.
     (most as f32) / ((samples as u32) as f32)
 }

@@ -12,7 +12,7 @@ ghost use Rattle.input_volume_controller.specs.Limits.{plain_limits, spotter_lim
 ghost use Rattle.input_volume_controller.specs.Calls.{recommendation, initialise, capture_switch, Does, AnalyzedOf, AnalyzedEachOf, AnalyzedSetOf};
 ghost use Rattle.input_volume_controller.specs.ChannelMetrics.{channel_metrics};
 
-pub use crate::limits::{Limits, PLAIN, SPOTTER};
+pub use crate::limits::{Limits, PLAIN, SPOTTER, plain_limits, spotter_limits};
 pub use crate::making::default_predictor_config;
 use crate::outcome::accepted_volumes;
 pub use crate::volume_control::VolumeControl;
@@ -35,13 +35,14 @@ pub mod plain;
 mod volume_control;
 mod volume_set;
 
+// No field says that it is in order: C's memory, which may hold any bits, is read into one, so that this is a clause.
 #[derive(Clone, Copy)]
 pub struct InputVolumeController {
     pub control: VolumeControl,
     pub predictor: ClippingPredictor,
 }
 
-// What making answers. A refusal has a controller of one channel with the default settings beside it.
+// What making answers. A refusal has a controller of one channel with the default settings beside it, since C's memory is written either way; so the answer stands beside it and not in a Result.
 #[derive(Clone, Copy)]
 pub struct Created {
     pub answer: Result<(), Refusal>,
@@ -124,6 +125,7 @@ impl InputVolumeController {
         ensures { CreatedIn profile num_capture_channels config predictor result }
     {
         let (answer, built) = making::answered(profile, num_capture_channels, config, predictor);
+        // Proved to fit; `try_from` would have an arm that never runs.
         let made = create_clipping_predictor(built.channels as i32, built.predictor);
         let rings = made.predictor;
         Created {
@@ -159,7 +161,8 @@ impl InputVolumeController {
         c
     }
 
-    // README names four entries for frames; each is one line over the two below them. A frame of all channels, one after another, each of `samples_per_channel` samples, with one volume for all. Tests causes 8 and 9, in that order.
+    // README names four entries for frames, with the original's parameters, so there are four; each is one line over `analyze_within` or `analyze_volumes`.
+    // A frame of all channels, one after another, each of `samples_per_channel` samples, with one volume for all. Tests causes 8 and 9, in that order.
     pub fn analyze_input_audio(
         self,
         applied_input_volume: i32,
@@ -279,7 +282,7 @@ impl InputVolumeController {
         requires { Good self }
         ensures { result ≡ pos (view_of self).control.volume }
     {
-        self.control.volume as i32
+        i32::from(self.control.volume)
     }
 
     // The i-th record that a channel's ring stores, the newest being the 0th.

@@ -1,6 +1,6 @@
 // The most that an entry for frames takes.
 ghost use Rattle.std.specs.Prelude.{◌≡◌};
-ghost use Rattle.input_volume_controller.specs.Limits.{is_within};
+ghost use Rattle.input_volume_controller.specs.Limits.{plain_limits, spotter_limits, is_within};
 
 use clipping_predictor::MAX_CHANNELS;
 use clipping_predictor_level_buffer::level::MAX_SAMPLES_PER_CHANNEL;
@@ -23,6 +23,19 @@ pub const SPOTTER: Limits = Limits {
     channels: 2,
     samples: 160,
 };
+
+// That the constants are the definition's.
+pub fn plain_limits() -> Limits
+    ensures { result ≡ plain_limits }
+{
+    PLAIN
+}
+
+pub fn spotter_limits() -> Limits
+    ensures { result ≡ spotter_limits }
+{
+    SPOTTER
+}
 
 pub fn is_within(most: Limits, channels: usize, samples: usize) -> bool
     ensures { result ≡ is_within most channels samples }

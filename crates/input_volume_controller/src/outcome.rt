@@ -24,6 +24,7 @@ pub fn accepted_volumes(
         return Err(Refusal::VolumeCount);
     }
     let levels = set.levels.ok_or(Refusal::InputVolume)?;
+    // Proved to fit; `try_from` would have an arm that never runs.
     if !frame_fits(channels as u8, samples, frame) {
         return Err(Refusal::FrameSize);
     }

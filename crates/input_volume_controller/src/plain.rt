@@ -1,7 +1,7 @@
 // A controller with numbers where it has enums: what passes to C and back, which an enum cannot. In each struct the larger come first, and the sizes add up to
 // whole words of eight bytes: no byte of it is a gap, so each is written, and equal states are equal byte for byte.
 ghost use Rattle.std.specs.Prelude.{◌≡◌};
-ghost use Rattle.input_volume_controller.specs.Plain.{mode_of, mode_number, applied_of, is_pending, pending_volume, whole_control, plain_control, whole_predictor, plain_predictor};
+ghost use Rattle.input_volume_controller.specs.Plain.{mode_of, mode_number, whole_control, plain_control, whole_predictor, plain_predictor};
 
 use crate::channels::Channels;
 use crate::volume_control::VolumeControl;
@@ -18,12 +18,14 @@ pub struct PlainControl {
     pub settings: Settings,
     pub since: u32,
     pub used: bool,
+    // A flag and a number, since the parts of a controller stand in C's memory.
     // whether a volume is applied, and it, or 0
     pub pending: bool,
     pub applied: u8,
     pub volume: u8,
 }
 
+// A predictor as it stands in C's memory.
 #[repr(C)]
 #[derive(Clone, Copy)]
 pub struct PlainPredictor {
@@ -39,16 +41,15 @@ pub struct PlainPredictor {
     pub enabled: u32,
 }
 
+// A mode is a number in C, and any bits may stand there; a function, since neither type is of this crate.
 pub fn mode_of(n: u32) -> ClippingPredictorMode
     ensures { result ≡ mode_of n }
 {
-    if n == 0 {
-        return ClippingPredictorMode::ClippingEventPrediction;
+    match n {
+        0 => ClippingPredictorMode::ClippingEventPrediction,
+        1 => ClippingPredictorMode::AdaptiveStepClippingPeakPrediction,
+        _ => ClippingPredictorMode::FixedStepClippingPeakPrediction,
     }
-    if n == 1 {
-        return ClippingPredictorMode::AdaptiveStepClippingPeakPrediction;
-    }
-    ClippingPredictorMode::FixedStepClippingPeakPrediction
 }
 
 pub fn mode_number(mode: ClippingPredictorMode) -> u32
@@ -61,44 +62,17 @@ pub fn mode_number(mode: ClippingPredictorMode) -> u32
     }
 }
 
-fn applied_of(pending: bool, volume: u8) -> Option<u8>
-    ensures { result ≡ applied_of pending volume }
-{
-    if pending {
-        return Some(volume);
-    }
-    None
-}
-
-fn is_pending(applied: Option<u8>) -> bool
-    ensures { result ≡ is_pending applied }
-{
-    match applied {
-        Some(_) => true,
-        None => false,
-    }
-}
-
-fn pending_volume(applied: Option<u8>) -> u8
-    ensures { result ≡ pending_volume applied }
-{
-    match applied {
-        Some(volume) => volume,
-        None => 0,
-    }
-}
-
+// This and the three below are functions, and no impls of From: as impls they are proved too, but each passes its rings by value once more, and a frame then takes
+// 36,744 bytes of stack for 23,464 (bindings/c/stack.c), where the header says at most 23,600.
 pub fn whole_control(p: PlainControl) -> VolumeControl
     ensures { result ≡ whole_control p }
 {
-    let settings = p.settings;
-    let channels = p.channels;
     VolumeControl {
-        settings,
-        channels,
+        settings: p.settings,
+        channels: p.channels,
         since: p.since,
         used: p.used,
-        applied: applied_of(p.pending, p.applied),
+        applied: p.pending.then_some(p.applied),
         volume: p.volume,
         controlling: p.controlling,
     }
@@ -107,16 +81,13 @@ pub fn whole_control(p: PlainControl) -> VolumeControl
 pub fn plain_control(c: VolumeControl) -> PlainControl
     ensures { result ≡ plain_control c }
 {
-    let settings = c.settings;
-    let channels = c.channels;
-    let applied = c.applied;
     PlainControl {
-        settings,
-        channels,
+        settings: c.settings,
+        channels: c.channels,
         since: c.since,
         used: c.used,
-        pending: is_pending(applied),
-        applied: pending_volume(applied),
+        pending: c.applied.is_some(),
+        applied: c.applied.unwrap_or(0),
         volume: c.volume,
         controlling: c.controlling,
     }
@@ -146,12 +117,11 @@ pub fn plain_predictor(p: ClippingPredictor) -> PlainPredictor
 {
     let rings = p.rings;
     let settings = p.settings;
-    let mode = settings.mode;
     PlainPredictor {
         rings,
         channels: p.channels,
         enabled: u32::from(settings.enabled),
-        mode: mode_number(mode),
+        mode: mode_number(settings.mode),
         window: settings.window,
         reference: settings.reference,
         delay: settings.delay,

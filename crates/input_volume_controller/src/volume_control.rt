@@ -34,21 +34,12 @@ pub struct VolumeControl {
     pub volume: u8,
 }
 
+// No recommendation hands the control back too, so it stands beside the answer.
 // What a recommendation answers.
 #[derive(Clone, Copy)]
 pub struct ControlRecommended {
     pub answer: Option<i32>,
     pub control: VolumeControl,
-}
-
-// Raised to the minimum, unless the volume that is applied is 0.
-fn raised_unless_zero(applied: u8, least: u8, volume: u8) -> u8
-    ensures { result ≡ raised_for (Some applied) least volume }
-{
-    if applied == 0 {
-        return volume;
-    }
-    volume.max(least)
 }
 
 // The lowest volume, raised to the minimum where a volume above 0 is pending.
@@ -57,7 +48,8 @@ fn raised_for(applied: Option<u8>, least: u8, volume: u8) -> u8
 {
     match applied {
         None => volume,
-        Some(v) => raised_unless_zero(v, least, volume),
+        Some(0) => volume,
+        Some(_) => volume.max(least),
     }
 }
 
@@ -66,11 +58,7 @@ fn speech_error(level: Option<f32>, min: i32, max: i32) -> Option<i32>
     requires { GoodTargets min max }
     ensures { result ≡ rms_error_of level min max }
 {
-    let answer = get_speech_level_rms_error_db(level, min, max);
-    match answer {
-        Ok(error) => error,
-        Err(_) => None,
-    }
+    get_speech_level_rms_error_db(level, min, max).unwrap_or(None)
 }
 
 // The control of a controller that is just made, with settings that were tested.
@@ -94,11 +82,9 @@ impl VolumeControl {
         requires { Good self }
         ensures { Becomes (with_applied applied (control_of self)) result }
     {
-        let settings = self.settings;
-        let channels = self.channels;
         VolumeControl {
-            settings,
-            channels,
+            settings: self.settings,
+            channels: self.channels,
             since: self.since,
             used: self.used,
             applied,
@@ -128,10 +114,9 @@ impl VolumeControl {
         requires { Good self × GoodChannels channels }
         ensures { Becomes (with_applied left (aggregated (with_applied pending (with_channels (channels_of channels) (control_of self))))) result }
     {
-        let settings = self.settings;
         let lowest = channels.aggregate();
         VolumeControl {
-            settings,
+            settings: self.settings,
             channels,
             since: self.since,
             used: self.used,
@@ -160,17 +145,15 @@ impl VolumeControl {
         let mut c = self;
         c.channels = self.channels.each(|_, channel| channel.initialize());
         c.used = true;
-        let d = c.aggregate_channel_levels();
-        d.with_applied(None)
+        c.aggregate_channel_levels().with_applied(None)
     }
 
     pub fn handle_capture_output_used_change(self, capture_output_used: bool) -> VolumeControl
         requires { Good self }
         ensures { ControlDoes self (capture_switch capture_output_used) done result }
     {
-        let channels = self.channels;
         let mut c = self;
-        c.channels = channels.each(|_, channel| channel.handle_capture_output_used_change(
+        c.channels = self.channels.each(|_, channel| channel.handle_capture_output_used_change(
             capture_output_used,
         ));
         c.used = capture_output_used;
@@ -187,11 +170,10 @@ impl VolumeControl {
             self.settings.min_target,
             self.settings.max_target,
         );
-        let applied = self.applied;
-        let channels = self.channels;
         self.with_channels(
-            channels.each(|_, channel| channel.process(error, speech_probability)),
-            applied,
+            self.channels
+                .each(|_, channel| channel.process(error, speech_probability)),
+            self.applied,
             None,
         )
     }
@@ -214,13 +196,13 @@ impl VolumeControl {
         };
         if !self.used {
             return ControlRecommended {
-                answer: Some(volume as i32),
+                answer: Some(i32::from(volume)),
                 control: self.aggregate_channel_levels(),
             };
         }
         let processed = self.process_channels(speech_probability, speech_level);
         ControlRecommended {
-            answer: Some(processed.volume as i32),
+            answer: Some(i32::from(processed.volume)),
             control: processed,
         }
     }

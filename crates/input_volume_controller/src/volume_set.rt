@@ -58,6 +58,7 @@ pub fn lowest(levels: [u8; MAX_CHANNELS], channels: usize) -> u8
     ensures { result ≡ lowest_of (levels_of levels channels) }
 {
     let mut low = levels[0];
+    // by index: the first volume starts the minimum, where a chain would have to begin at a volume of no channel
     for i in 1..channels {
         low = low.min(levels[i]);
     }

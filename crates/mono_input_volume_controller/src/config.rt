@@ -94,6 +94,7 @@ fn kept(config: Config) -> Settings
     ensures { result ≡ settings_from config }
 {
     Settings {
+        // Proved to fit, as those below; `try_from` would have an arm that never runs.
         least: config.min_input_volume.unsigned_abs() as u8,
         floor: config.clipped_level_min.unsigned_abs() as u8,
         step: config.clipped_level_step.unsigned_abs() as u8,

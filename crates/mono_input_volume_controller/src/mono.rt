@@ -15,6 +15,7 @@ const VOLUME_QUANTIZATION_SLACK: u8 = 25;
 const MAX_ABS_RMS_ERROR_DBFS: i32 = 15;
 
 // Each field stands under its name in the source. Whole words come first, then bytes, eight of them, so that no gap is left; so the floor, a volume, is a word.
+// No field says that it is in order: C's memory, which may hold any bits, is read into one, so that this is a clause.
 #[repr(C)]
 #[derive(Clone, Copy)]
 pub struct MonoInputVolumeController {
@@ -133,6 +134,7 @@ impl MonoInputVolumeController {
         requires { Good self }
         ensures { Becomes (handled_clipping clipped_level_step self) result }
     {
+        // Proved to fit; `try_from` would have an arm that never runs.
         let floor = self.floor as u8;
         let last = self.last;
         let mut m = self;
@@ -250,6 +252,7 @@ impl MonoInputVolumeController {
         requires { Good self × (speech ≤ max_wait) }
         ensures { result ≡ may_act speech self }
     {
+        // From has no f32 of a u32.
         !self.first && self.ratio <= (speech as f32) / (self.wait as f32)
     }
 

@@ -20,6 +20,7 @@ fn error_of(level: f32, min: i32, max: i32) -> i32
     requires { GoodTargets min max }
     ensures { result ≡ error_of level min max }
 {
+    // From has no f32 of an i32.
     let top = max as f32;
     let bottom = min as f32;
     if level > top {
@@ -31,7 +32,7 @@ fn error_of(level: f32, min: i32, max: i32) -> i32
     0
 }
 
-// The error for targets in range.
+// The error for targets in range. A match and no `map`: its two arms are the definition's two cases, each proved by itself.
 fn rms_error(level: Option<f32>, min: i32, max: i32) -> Option<i32>
     requires { GoodTargets min max }
     ensures { result ≡ rms_error_of level min max }

@@ -8,6 +8,7 @@ pub fn with_sign(negative: bool, n: u32) -> i32
 {
     if negative {
         if n < 0x8000_0000 {
+            // Proved to fit; `try_from` would have an arm that never runs.
             0 - (n as i32)
         } else {
             -2147483648

@@ -43,6 +43,7 @@ impl Answering for Begun {
     {
         let mut rest = piece;
         let mut written = 0;
+        // As long as something is left: no index is counted.
         while !rest.is_empty() {
             let fed = feed(*self, rest, &mut out[written..]);
             *self = fed.begun;

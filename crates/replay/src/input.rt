@@ -7,6 +7,7 @@ use command_line::input::read_full;
 // What is read: the bytes of the space up to `held`, of which those from `start` on are still to be answered.
 #[derive(Drop)]
 pub struct Lines {
+    // an array, since nothing here allocates
     space: [u8; 262144],
     start: usize,
     held: usize,

@@ -46,6 +46,7 @@ fn digits(text: &[u8], base: u64) -> u64
 
 // The float whose bits are the hexadecimal digits with which a text begins.
 fn float_of(text: &[u8]) -> f32 {
+    // The casts of this file are proved to fit; `try_from` would have an arm that never runs.
     levels::bits::from_bits((digits(text, 16) % (1 << 32)) as u32)
 }
 

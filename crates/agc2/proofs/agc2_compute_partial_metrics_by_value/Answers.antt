@@ -13,5 +13,5 @@ compute_partial_metrics-requires c = in_order c.whole.ensures c.requires
 
 pub returns : goal.returns
 returns c =
-    c.metrics_of.ensures ∙ ap metrics_of (c.compute_partial_metrics.ensures
+    c.from.ensures ∙ ap metrics_of (c.compute_partial_metrics.ensures
     ∙ (λ i. said (channel_metrics (view_of (c.whole.ensures i)).predictor c.args.channel (again c.args.delay c.ranges.delay.sfits i) (again c.args.num_items c.ranges.num_items.sfits i))))

@@ -14,4 +14,4 @@ stored_record-requires c = in_order c.whole.ensures c.requires
 
 pub returns : goal.returns
 returns c =
-    c.record_of.ensures ∙ ap record_of (c.stored_record.ensures ∙ ap (λ (x : InputVolumeController). stored_at (get_or (view_of x).predictor.rings c.args.channel []) c.args.i) c.whole.ensures)
+    c.from.ensures ∙ ap record_of (c.stored_record.ensures ∙ ap (λ (x : InputVolumeController). stored_at (get_or (view_of x).predictor.rings c.args.channel []) c.args.i) c.whole.ensures)

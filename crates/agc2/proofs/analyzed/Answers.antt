@@ -12,7 +12,7 @@ analyze_volumes-analyzed-requires c = in_order c.whole-c.ensures c.requires
 
 pub returns : goal.returns
 returns c =
-    framed c.analyze_volumes-analyzed.result c.whole-c.ensures c.frame_numbers-numbers.ensures c.beside.ensures
+    framed c.analyze_volumes-analyzed.result c.whole-c.ensures c.from-numbers.ensures c.beside.ensures
     (of_set c.args.most c.whole-c.result (in_order c.whole-c.ensures c.requires) _ c.set_for-set.result
     (subst (λ (x : InputVolumeController). SetOf (volumes_for x.control.channels.count c.args.volumes) c.set_for-set.result) c.whole-c.ensures c.set_for-set.ensures)
     c.args.samples_per_channel c.args.samples.now c.analyze_volumes-analyzed.ensures)

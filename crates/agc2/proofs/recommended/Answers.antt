@@ -12,5 +12,5 @@ recommend_input_volume-recommended-requires c = control_in_order c.whole_control
 
 pub returns : goal.returns
 returns c =
-    answered c.recommend_input_volume-recommended.result c.whole_control.ensures (again c.volume_numbers-numbers.result.volume c.struct_told-1.given.1.0.1) c.volume_numbers-numbers.ensures c.plain_control.ensures
+    answered c.recommend_input_volume-recommended.result c.whole_control.ensures (again c.from-numbers.result.volume c.struct_told-1.given.1.0.1) c.from-numbers.ensures c.plain_control.ensures
     (subst (λ (x : Option Float). ControlDoes c.whole_control.result (recommendation c.args.speech_probability x) (recommendation_says c.recommend_input_volume-recommended.result.answer) c.recommend_input_volume-recommended.result.control) c.speech_level_of-level.ensures c.recommend_input_volume-recommended.ensures)

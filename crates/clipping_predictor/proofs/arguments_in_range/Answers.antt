@@ -11,6 +11,7 @@ use Rattle.numbers.proofs.Ranges.{told}
 use Rattle.clipping_predictor.specs.EstimateCall.{arguments_of, given}
 use Rattle.clipping_predictor.proofs.Given.{ends_crossed, level_above, in_range}
 use Rattle.clipping_predictor.proofs.arguments_in_range.Goals as goal
+use Rattle.clipping_predictor.proofs.arguments_in_range.Goals.{then-most-least-via-then-most-least, then-most-least-via-else-most-least+then-most-here}
 
 -- ---- the five numbers, where they lie in their range, and what was known before each
 
@@ -62,17 +63,10 @@ returns-then-most-least c =
     let third-is : within_of 1 255 c.args.default_step ≡ Some c.in_ok-step.step = sym (ap (within_of 1 255) (to_z-of_z w32 c.args.default_step c.ranges.default_step)) ∙ asked_some _ _ _ _ c.within-3.ensures c.ok_or-3.ensures.value c.in_ok-step.was in
     let fourth-is : within_of 0 255 c.args.min_mic_level ≡ Some c.in_ok-least.least = sym (ap (within_of 0 255) (to_z-of_z w32 c.args.min_mic_level c.ranges.min_mic_level)) ∙ asked_some _ _ _ _ c.within-4.ensures c.ok_or-4.ensures.value c.in_ok-least.was in
     let fifth-is : within_of 0 255 c.args.max_mic_level ≡ Some c.in_ok-most.most = sym (ap (within_of 0 255) (to_z-of_z w32 c.args.max_mic_level c.ranges.max_mic_level)) ∙ asked_some _ _ _ _ c.within-5.ensures c.ok_or-5.ensures.value c.in_ok-most.was in
-    ends_crossed _ _ _ _ _ c.if-most-least.true ∙ sym (λ i. given (first_is i) (second_is i) (third-is i) (fourth-is i) (fifth-is i))
-
-pub returns-then-most-here : goal.returns-then-most-here
-unfolding arguments_of given
-returns-then-most-here c =
-    let first_is : within_of 0 255 c.args.level ≡ Some c.in_ok-here.here = sym (ap (within_of 0 255) (to_z-of_z w32 c.args.level c.ranges.level)) ∙ asked_some _ _ _ _ c.within.ensures c.ok_or.ensures.value c.in_ok-here.was in
-    let second_is : within_of 0 (c.args.channels - 1) c.args.channel ≡ Some c.in_ok-place.place = sym (ap (within_of 0 (c.args.channels - 1)) (to_z-of_z w32 c.args.channel c.ranges.channel)) ∙ asked_some _ _ _ _ c.within-2.ensures c.ok_or-2.ensures.value c.in_ok-place.was in
-    let third-is : within_of 1 255 c.args.default_step ≡ Some c.in_ok-step.step = sym (ap (within_of 1 255) (to_z-of_z w32 c.args.default_step c.ranges.default_step)) ∙ asked_some _ _ _ _ c.within-3.ensures c.ok_or-3.ensures.value c.in_ok-step.was in
-    let fourth-is : within_of 0 255 c.args.min_mic_level ≡ Some c.in_ok-least.least = sym (ap (within_of 0 255) (to_z-of_z w32 c.args.min_mic_level c.ranges.min_mic_level)) ∙ asked_some _ _ _ _ c.within-4.ensures c.ok_or-4.ensures.value c.in_ok-least.was in
-    let fifth-is : within_of 0 255 c.args.max_mic_level ≡ Some c.in_ok-most.most = sym (ap (within_of 0 255) (to_z-of_z w32 c.args.max_mic_level c.ranges.max_mic_level)) ∙ asked_some _ _ _ _ c.within-5.ensures c.ok_or-5.ensures.value c.in_ok-most.was in
-    level_above _ _ _ _ _ c.if-most-least.false c.if-most-here.true ∙ sym (λ i. given (first_is i) (second_is i) (third-is i) (fourth-is i) (fifth-is i))
+    elim c.then-most-least.branch [
+      | then-most-least-via-then-most-least w ↦ ends_crossed _ _ _ _ _ w.if-most-least.true ∙ sym (λ i. given (first_is i) (second_is i) (third-is i) (fourth-is i) (fifth-is i))
+      | then-most-least-via-else-most-least+then-most-here w ↦ level_above _ _ _ _ _ w.if-most-least.false w.if-most-here.true ∙ sym (λ i. given (first_is i) (second_is i) (third-is i) (fourth-is i) (fifth-is i))
+    ]
 
 pub overflow_cast-result : goal.overflow_cast-result
 overflow_cast-result c =

@@ -4,7 +4,8 @@ use native.Mathlib.Omega.{arith}
 use lib.IntN.{ℤ, pos}
 use mir.Syntax.{w32}
 use mir.Val.{SFits}
-use mir.ValLaws.{to_z-of_z, to_z_pos}
+use mir.ValLaws.{to_z-of_z}
+use Rattle.std.proofs.lemmas.Int.{ints}
 use Rattle.std.specs.Prelude.{Ok}
 use Rattle.numbers.proofs.Asked.{asked_none, asked_some, handed_on}
 use Rattle.numbers.proofs.Signs.{read}
@@ -58,7 +59,7 @@ overflow_cast-max c = omega (arith, told _ _ _ _ (asked_some _ _ _ _ c.within-3.
 pub returns : goal.returns
 returns c =
     ap said
-    (ap Ok (to_z_pos w32 _ (omega (arith, c.walk_from.type_inv)) ∙ ap pos c.walk_from.ensures)
+    (ap Ok (omega (arith, ints, c.walk_from.type_inv, c.from.ensures) ∙ ap pos c.walk_from.ensures)
     ∙ steps_to _ _ _ _ _ (asked_some _ _ _ _ c.within.ensures c.ok_or.ensures.value c.in_ok-min.was) _ (asked_some _ _ _ _ c.within-2.ensures c.ok_or-2.ensures.value c.in_ok-volume.was) _
     (asked_some _ _ _ _ c.within-3.ensures c.ok_or-3.ensures.value c.in_ok-max.was) c.if-max-volume.false
     ∙ back _ _ _ _ c.ranges.gain_error_db c.ranges.input_volume c.ranges.min_input_volume c.ranges.max_input_volume)

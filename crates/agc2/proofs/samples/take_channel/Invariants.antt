@@ -1,5 +1,4 @@
 -- `agc2::samples::take_channel` meets its contract: each turn writes the sample of one moment more. Assumes nothing.
-use Prim.Native.Nat.{◌-◌}
 use lib.ListN.{length}
 use Rattle.agc2.specs.Samples.{channel_of}
 use Rattle.agc2.proofs.Interleaved.{Written}
@@ -7,6 +6,3 @@ use Rattle.agc2.proofs.samples.take_channel.Given as goal
 
 abbrev pub invariant-loop-i : goal.invariant-loop-i
 invariant-loop-i l = Written l.initial.part (channel_of l.channels (length l.initial.part) l.samples l.channel) l.part l.i
-
-abbrev pub decreases-loop-i : goal.decreases-loop-i
-decreases-loop-i l = l.moments - l.i

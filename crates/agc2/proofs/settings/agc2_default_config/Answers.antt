@@ -4,4 +4,4 @@ use Rattle.agc2.specs.Settings.{in_numbers}
 use Rattle.agc2.proofs.settings.agc2_default_config.Goals as goal
 
 pub returns : goal.returns
-returns c = c.in_numbers.ensures ∙ ap in_numbers c.default.ensures
+returns c = c.from.ensures ∙ ap in_numbers c.default.ensures

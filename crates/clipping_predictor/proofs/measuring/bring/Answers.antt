@@ -3,6 +3,7 @@ use mathlib.Core.Path.{◌≡◌, sym, ap, ◌∙◌}
 use mathlib.Core.Bool.{Bool, true, false, ◌&&◌}
 use Prim.Native.Nat.{ℕ, ◌≤◌}
 use native.Mathlib.Omega.{arith}
+use borrow.Author.Rules.{rules}
 use Rattle.numbers.proofs.Truths.{and_false}
 use Rattle.clipping_predictor.specs.Predictor.{frame_fits}
 use Rattle.clipping_predictor.specs.MostClipped.{most_clipped, most_counted}
@@ -29,16 +30,16 @@ hearing-most false channels = omega arith
 
 pub most_clipped-requires : goal.most_clipped-requires
 most_clipped-requires c =
-    let first_is : c.hearing-first.result ≡ hearing (is_asked c.args.question) c.args.channels = c.hearing-first.ensures ∙ ap (λ (b : Bool). hearing b c.args.channels) c.is_asked.ensures in
-    let first-within : c.hearing-first.result ≤ c.args.channels = omega (arith, first_is, hearing-most (is_asked c.args.question) c.args.channels) in
+    let first_is : c.map_or-first.result ≡ hearing (is_asked c.args.question) c.args.channels = search rules in
+    let first-within : c.map_or-first.result ≤ c.args.channels = omega (arith, first_is, hearing-most (is_asked c.args.question) c.args.channels) in
     let fitting : frame_fits c.args.channels c.args.samples c.args.frame.now ≡ true = sym c.frame_fits.ensures ∙ c.if-not-frame_fits.false in
     (first-within, c.requires, fitting)
 
 pub returns-then-not-on : goal.returns-then-not-on
 returns-then-not-on c =
-    let first_is : c.hearing-first.result ≡ hearing (is_asked c.args.question) c.args.channels = c.hearing-first.ensures ∙ ap (λ (b : Bool). hearing b c.args.channels) c.is_asked.ensures in
+    let first_is : c.map_or-first.result ≡ hearing (is_asked c.args.question) c.args.channels = search rules in
     let fitting : frame_fits c.args.channels c.args.samples c.args.frame.now ≡ true = sym c.frame_fits.ensures ∙ c.if-not-frame_fits.false in
-    let most-is : (n : ℕ) → n ≡ most_clipped c.hearing-first.result c.args.samples c.args.frame.now → n ≡ clipped_if (frame_fits c.args.channels c.args.samples c.args.frame.now) (clipped_for c.args.question c.args.channels c.args.samples c.args.frame.now) = λ n e. e ∙ ap (λ (k : ℕ). most_clipped k c.args.samples c.args.frame.now) (first_is) ∙ sym (ap (λ (b : Bool). clipped_if b (clipped_for c.args.question c.args.channels c.args.samples c.args.frame.now)) (fitting)) in
+    let most-is : (n : ℕ) → n ≡ most_clipped c.map_or-first.result c.args.samples c.args.frame.now → n ≡ clipped_if (frame_fits c.args.channels c.args.samples c.args.frame.now) (clipped_for c.args.question c.args.channels c.args.samples c.args.frame.now) = λ n e. e ∙ ap (λ (k : ℕ). most_clipped k c.args.samples c.args.frame.now) (first_is) ∙ sym (ap (λ (b : Bool). clipped_if b (clipped_for c.args.question c.args.channels c.args.samples c.args.frame.now)) (fitting)) in
     brings_nothing _ _ _ _ c.args.on _ (ap (λ (b : Bool). b && frame_fits c.args.channels c.args.samples c.args.frame.now) (c.if-not-on.true)) (most-is _ c.most_clipped.ensures)
 
 pub levels_of-levels-requires : goal.levels_of-levels-requires
@@ -48,15 +49,15 @@ levels_of-levels-requires c =
 
 pub most_counted-requires : goal.most_counted-requires
 most_counted-requires c =
-    let first_is : c.hearing-first.result ≡ hearing (is_asked c.args.question) c.args.channels = c.hearing-first.ensures ∙ ap (λ (b : Bool). hearing b c.args.channels) c.is_asked.ensures in
-    let first-within : c.hearing-first.result ≤ c.args.channels = omega (arith, first_is, hearing-most (is_asked c.args.question) c.args.channels) in
+    let first_is : c.map_or-first.result ≡ hearing (is_asked c.args.question) c.args.channels = search rules in
+    let first-within : c.map_or-first.result ≤ c.args.channels = omega (arith, first_is, hearing-most (is_asked c.args.question) c.args.channels) in
     omega (arith, first-within, c.requires)
 
 pub returns : goal.returns
 returns c =
     let fitting : frame_fits c.args.channels c.args.samples c.args.frame.now ≡ true = sym c.frame_fits.ensures ∙ c.if-not-frame_fits.false in
-    let first_is : c.hearing-first.result ≡ hearing (is_asked c.args.question) c.args.channels = c.hearing-first.ensures ∙ ap (λ (b : Bool). hearing b c.args.channels) c.is_asked.ensures in
-    let most-is : (n : ℕ) → n ≡ most_clipped c.hearing-first.result c.args.samples c.args.frame.now → n ≡ clipped_if (frame_fits c.args.channels c.args.samples c.args.frame.now) (clipped_for c.args.question c.args.channels c.args.samples c.args.frame.now) = λ n e. e ∙ ap (λ (k : ℕ). most_clipped k c.args.samples c.args.frame.now) (first_is) ∙ sym (ap (λ (b : Bool). clipped_if b (clipped_for c.args.question c.args.channels c.args.samples c.args.frame.now)) (fitting)) in
-    let first-within : c.hearing-first.result ≤ c.args.channels = omega (arith, first_is, hearing-most (is_asked c.args.question) c.args.channels) in
+    let first_is : c.map_or-first.result ≡ hearing (is_asked c.args.question) c.args.channels = search rules in
+    let most-is : (n : ℕ) → n ≡ most_clipped c.map_or-first.result c.args.samples c.args.frame.now → n ≡ clipped_if (frame_fits c.args.channels c.args.samples c.args.frame.now) (clipped_for c.args.question c.args.channels c.args.samples c.args.frame.now) = λ n e. e ∙ ap (λ (k : ℕ). most_clipped k c.args.samples c.args.frame.now) (first_is) ∙ sym (ap (λ (b : Bool). clipped_if b (clipped_for c.args.question c.args.channels c.args.samples c.args.frame.now)) (fitting)) in
+    let first-within : c.map_or-first.result ≤ c.args.channels = omega (arith, first_is, hearing-most (is_asked c.args.question) c.args.channels) in
     brings_levels _ _ _ _ c.args.on _ _ (λ i. c.if-not-on.false i && fitting i) (fits _ _ _ (fitting)).most c.levels_of-levels.ensures
-    (most-is _ (c.most_counted.ensures ∙ ap (most_counted c.hearing-first.result) c.levels_of-levels.ensures ∙ counted_clipped c.hearing-first.result c.args.channels c.args.samples c.args.frame.now (first-within) c.requires))
+    (most-is _ (c.most_counted.ensures ∙ ap (most_counted c.map_or-first.result) c.levels_of-levels.ensures ∙ counted_clipped c.map_or-first.result c.args.channels c.args.samples c.args.frame.now (first-within) c.requires))

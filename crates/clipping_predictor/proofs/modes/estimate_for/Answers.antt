@@ -12,14 +12,14 @@ use Rattle.clipping_predictor.specs.Turned.{estimated}
 use Rattle.clipping_predictor.specs.Estimate.{windows_tree}
 use Rattle.clipping_predictor.proofs.Windows.{off, low, on}
 use Rattle.clipping_predictor.proofs.modes.estimate_for.Goals as goal
+use Rattle.clipping_predictor.proofs.modes.estimate_for.Goals.{then-not-s-via-then-not-s, then-not-s-via-else-not-s+then-a}
 
 pub returns-then-not-s : goal.returns-then-not-s
 returns-then-not-s c =
-    c.no_estimate.ensures ∙ sym (ap estimated (off c.args.s (stored c.args.ring) c.args.a (not-true _ c.if-not-s.true) c.requires.settings.window_low))
-
-pub returns-then-a : goal.returns-then-a
-returns-then-a c =
-    c.no_estimate-then-a.ensures ∙ sym (ap estimated (low c.args.s (stored c.args.ring) c.args.a c.if-a.true))
+    elim c.then-not-s.branch [
+      | then-not-s-via-then-not-s w ↦ c.no_estimate.ensures ∙ sym (ap estimated (off c.args.s (stored c.args.ring) c.args.a (not-true _ w.if-not-s.true) c.requires.settings.window_low))
+      | then-not-s-via-else-not-s+then-a w ↦ c.no_estimate.ensures ∙ sym (ap estimated (low c.args.s (stored c.args.ring) c.args.a w.if-a.true))
+    ]
 
 pub returns : goal.returns
 returns c =

@@ -1,9 +1,7 @@
 -- `clipping_predictor_level_buffer::ClippingPredictorLevelBuffer::compute_partial_metrics` meets its contract: each return by the ranges that lead there. Assumes nothing.
-use mathlib.Core.Path.{◌≡◌, sym, ap, ◌∙◌}
+use mathlib.Core.Path.{ap, ◌∙◌}
 use mir.Syntax.{w32}
 use mir.ValLaws.{to_z-of_z}
-use Rattle.std.specs.Prelude.{ℤ, Result, Option}
-use Rattle.numbers.specs.declared.refusal.Refusal.{Refusal}
 use Rattle.numbers.proofs.Asked.{asked_some, asked_none, handed_on}
 use Rattle.numbers.specs.Said.{said}
 use Rattle.clipping_predictor_level_buffer.specs.Ring.{stored}

@@ -19,11 +19,11 @@ returns-then-capacity-lt1 c = back c.before.before _ (made_least _ _ c.if-capaci
 
 pub returns-in_default : goal.returns-in_default
 returns-in_default c =
-    back c.before.before.before.before _ (made_none _ _ c.if-capacity-lt1.false (sym c.within-wanted.ensures ∙ c.in_default.is) c.empty-in_default.ensures)
+    back c.before.before.before.before _ (made_none _ _ c.if-capacity-lt1.false (sym c.within.ensures ∙ c.in_default.is) c.empty-in_default.ensures)
 
 pub empty-requires-2 : goal.empty-requires-2
-empty-requires-2 c = within_capacity _ _ (sym c.within-wanted.ensures ∙ c.in-Some.is)
+empty-requires-2 c = within_capacity _ _ (sym c.within.ensures ∙ c.in-Some.is)
 
 pub returns : goal.returns
 returns c =
-    back c.before.before.before.before _ (made _ _ _ (sym c.within-wanted.ensures ∙ c.in-Some.is) c.empty-2.ensures)
+    back c.before.before.before.before _ (made _ _ _ (sym c.within.ensures ∙ c.in-Some.is) c.empty-2.ensures)

@@ -16,14 +16,14 @@ back : (c : Start) (r : AfterPush) → PushedOf (read c.args.clipped) c.args.sel
 back c r = subst (λ (x : ℤ). PushedOf x c.args.self (offered c.args.average c.args.max x) r) (to_z-of_z w32 c.args.clipped c.ranges.clipped)
 
 pub returns-in_default : goal.returns-in_default
-returns-in_default c = back c.before.before _ (push_refused _ _ _ (outside_count _ (sym c.within-counted.ensures ∙ c.in_default.is)) c.requires)
+returns-in_default c = back c.before.before _ (push_refused _ _ _ (outside_count _ (sym c.within.ensures ∙ c.in_default.is)) c.requires)
 
-pub overflow_cast-level : goal.overflow_cast-level
-overflow_cast-level c = omega (arith, (inside_count _ _ (sym c.within-counted.ensures ∙ c.in-Some.is)).0)
+pub overflow_cast-n : goal.overflow_cast-n
+overflow_cast-n c = omega (arith, (inside_count _ _ (sym c.within.ensures ∙ c.in-Some.is)).0)
 
 pub push_level-requires : goal.push_level-requires
 push_level-requires c = c.requires
 
 pub returns : goal.returns
 returns c =
-    back c.before.before.before _ (push_offered _ _ _ _ _ _ (sym c.within-counted.ensures ∙ c.in-Some.is) c.push_level.ensures)
+    back c.before.before.before _ (push_offered _ _ _ _ _ _ (sym c.within.ensures ∙ c.in-Some.is) c.push_level.ensures)

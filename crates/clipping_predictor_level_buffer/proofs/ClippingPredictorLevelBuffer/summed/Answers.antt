@@ -2,8 +2,9 @@
 use mathlib.Core.Path.{◌≡◌, sym, ap, subst, ◌∙◌}
 use Prim.Native.Nat.{ℕ}
 use native.Mathlib.Omega.{arith}
-use lib.Ieee.{of_bits}
+use lib.Ieee.{Float, of_bits, div, binary32}
 use lib.ListN.{get_or, drop, length-drop}
+use Rattle.clipping_predictor_level_buffer.specs.declared.level.Level.{Level}
 use Rattle.clipping_predictor_level_buffer.specs.Ring.{no_level, stored, Counted}
 use Rattle.clipping_predictor_level_buffer.proofs.Records.{length_stored, later_is}
 use Rattle.clipping_predictor_level_buffer.proofs.Sums.{Summed, later_counted, none_summed, few, one_few, one_more, metrics_are}
@@ -46,10 +47,11 @@ pub loop-i-preserved : goal.loop-i-preserved
 loop-i-preserved c =
     (omega arith, one_more _ c.loop-i.i c.loop-i.sum c.loop-i.max _ _ _ c.loop-i.invariant.1 (simp (length-drop, length_stored) (omega arith)) (this c.before.before.before) c.larger-max.ensures)
 
-pub overflow_cast-count : goal.overflow_cast-count
-overflow_cast-count c = omega arith
+pub overflow_cast-items : goal.overflow_cast-items
+overflow_cast-items c = omega arith
 
 pub returns : goal.returns
 returns c =
     let same : c.loop-i.i ≡ c.args.items = omega arith in
-    metrics_are _ c.args.items c.loop-i.sum c.loop-i.max c.loop-i.clipped (subst (λ (n : ℕ). Summed (drop c.args.delay (stored c.args.self)) n c.loop-i.sum c.loop-i.max c.loop-i.clipped) same c.loop-i.invariant.1) (simp (length-drop, length_stored) (omega arith))
+    ap (λ (n : Float). let l : Level = record { average = div binary32 c.loop-i.sum n; max = c.loop-i.max; clipped = c.loop-i.clipped } in l) c.from.ensures
+    ∙ metrics_are _ c.args.items c.loop-i.sum c.loop-i.max c.loop-i.clipped (subst (λ (n : ℕ). Summed (drop c.args.delay (stored c.args.self)) n c.loop-i.sum c.loop-i.max c.loop-i.clipped) same c.loop-i.invariant.1) (simp (length-drop, length_stored) (omega arith))

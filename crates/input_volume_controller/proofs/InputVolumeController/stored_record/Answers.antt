@@ -1,5 +1,5 @@
 -- `InputVolumeController::stored_record` meets its contract. Assumes nothing.
-use mathlib.Core.Path.{ap, ◌∙◌}
+use mathlib.Core.Path.{◌∙◌}
 use native.Mathlib.Omega.{arith}
 use Rattle.input_volume_controller.specs.Controller.{view_of}
 use Rattle.input_volume_controller.proofs.Whole.{stored_none, stored_some}

@@ -1,6 +1,6 @@
 -- `making::decide` meets its contract: the channel count is tested first, then the settings, and then the predictor. Assumes nothing.
 use mathlib.Core.Path.{◌≡◌, refl, sym, ap, ap₂, subst, ◌∙◌}
-use Rattle.std.specs.Prelude.{ℕ, ℤ, Option, Result, Some}
+use Rattle.std.specs.Prelude.{ℕ, ℤ, Option, Result}
 use Rattle.numbers.specs.declared.refusal.Refusal.{Refusal}
 use Rattle.mono_input_volume_controller.specs.declared.config.Settings.{Settings}
 use Rattle.numbers.specs.Natural.{within_of}

@@ -9,9 +9,9 @@ use Rattle.input_volume_controller.proofs.Volumes.{then, each_channel_lem, with_
 use Rattle.input_volume_controller.proofs.Whole.{same_count, beside}
 use Rattle.input_volume_controller.proofs.volume_control.VolumeControl.initialize.Goals as goal
 
-pub aggregate_channel_levels-d-requires : goal.aggregate_channel_levels-d-requires
+pub aggregate_channel_levels-requires : goal.aggregate_channel_levels-requires
 unfolding called
-aggregate_channel_levels-d-requires c =
+aggregate_channel_levels-requires c =
     let each = each_channel_lem c.args.self c.requires c.each-c.result c.each-c.ensures Initialize (λ i m n h good post. search rules) in
     (with_used_lem _ each.good true).good
 
@@ -19,5 +19,5 @@ pub returns : goal.returns
 unfolding initialize called
 returns c =
     let each = each_channel_lem c.args.self c.requires c.each-c.result c.each-c.ensures Initialize (λ i m n h good post. search rules) in
-    let b = then (with_applied _) (then aggregated (then (with_used true) each (with_used_lem _ each.good true)) c.aggregate_channel_levels-d.ensures) c.with_applied.ensures in
+    let b = then (with_applied _) (then aggregated (then (with_used true) each (with_used_lem _ each.good true)) c.aggregate_channel_levels.ensures) c.with_applied.ensures in
     record { good = b.good; count = same_count c.args.self _ b (initialize_count (control_of c.args.self)); does = λ p. beside p refl b }

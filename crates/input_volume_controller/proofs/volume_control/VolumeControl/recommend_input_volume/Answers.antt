@@ -2,8 +2,7 @@
 use mathlib.Core.Path.{refl, sym, ap, ◌∙◌}
 use native.Mathlib.Omega.{arith}
 use lib.IntN.{pos}
-use mir.Syntax.{w32}
-use mir.ValLaws.{to_z_pos}
+use Rattle.std.proofs.lemmas.Int.{ints}
 use borrow.Author.Tests.{not-true, not-false}
 use Rattle.clipping_predictor.specs.Predictor.{Predictor}
 use Rattle.input_volume_controller.specs.Control.{Control, control_of}
@@ -30,7 +29,7 @@ returns-then-not-self c =
     record {
       good = c.aggregate_channel_levels.ensures.good;
       count = same_count c.args.self _ c.aggregate_channel_levels.ensures (aggregate_count (control_of c.args.self));
-      does = λ p. recommend_off (seen c.before.before.before.before p) _ _ c.in-Some.volume c.in-Some.is (not-true _ c.if-not-self.true) ∙ beside p (ap volume (sym (to_z_pos w32 _ (omega arith)))) c.aggregate_channel_levels.ensures;
+      does = λ p. recommend_off (seen c.before.before.before.before.before p) _ _ c.in-Some.volume c.in-Some.is (not-true _ c.if-not-self.true) ∙ beside p (ap volume (sym (omega (arith, ints, c.from.ensures)))) c.aggregate_channel_levels.ensures;
     }
 
 pub returns : goal.returns
@@ -40,5 +39,5 @@ returns c =
       good = c.process_channels-processed.ensures.good;
       count = same_count c.args.self _ c.process_channels-processed.ensures (process_count (control_of c.args.self) _ _);
       does = λ beside-it. recommend_on (seen c.before.before.before.before.before beside-it) _ _ c.in-Some.volume c.in-Some.is (not-false _ c.if-not-self.false)
-          ∙ beside beside-it (ap volume (sym (to_z_pos w32 _ (omega (arith, c.process_channels-processed.ensures.good.volume)) ∙ ap (λ (x : Control). pos x.volume) c.process_channels-processed.ensures.is))) c.process_channels-processed.ensures;
+          ∙ beside beside-it (ap volume (sym (omega (arith, ints, c.from-2.ensures, c.process_channels-processed.ensures.good.volume) ∙ ap (λ (x : Control). pos x.volume) c.process_channels-processed.ensures.is))) c.process_channels-processed.ensures;
     }

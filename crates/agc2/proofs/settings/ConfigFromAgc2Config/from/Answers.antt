@@ -1,7 +1,7 @@
--- `settings::config_of` meets its contract. Assumes nothing.
+-- `ConfigFromAgc2Config`: `from` gives what `config_of` says. Assumes nothing.
 use Rattle.numbers.proofs.Signs.{again}
 use Rattle.input_volume_controller.proofs.Flags.{set_is}
-use Rattle.agc2.proofs.settings.config_of.Goals as goal
+use Rattle.agc2.proofs.settings.ConfigFromAgc2Config.from.Goals as goal
 
 pub returns : goal.returns
 returns c =

@@ -1,8 +1,8 @@
--- `settings::predictor_config_of` meets its contract. Assumes nothing.
+-- `ClippingPredictorConfigFromAgc2PredictorConfig`: `from` gives what `predictor_config_of` says. Assumes nothing.
 use mathlib.Core.Bool.{false}
 use Rattle.numbers.proofs.Signs.{again}
 use Rattle.agc2.specs.Settings.{predictor_config_of}
-use Rattle.agc2.proofs.settings.predictor_config_of.Goals as goal
+use Rattle.agc2.proofs.settings.ClippingPredictorConfigFromAgc2PredictorConfig.from.Goals as goal
 
 pub returns : goal.returns
 unfolding predictor_config_of

@@ -1,8 +1,8 @@
--- `settings::in_numbers` meets its contract. Assumes nothing.
+-- `Agc2ConfigFromConfig`: `from` gives what `in_numbers` says. Assumes nothing.
 use mathlib.Core.Path.{◌∙◌}
 use Rattle.numbers.proofs.Signs.{again}
 use Rattle.input_volume_controller.proofs.Flags.{flag_is}
-use Rattle.agc2.proofs.settings.in_numbers.Goals as goal
+use Rattle.agc2.proofs.settings.Agc2ConfigFromConfig.from.Goals as goal
 
 pub returns : goal.returns
 returns c =

@@ -1,6 +1,6 @@
--- `settings::predictor_in_numbers` meets its contract. Assumes nothing.
+-- `Agc2PredictorConfigFromClippingPredictorConfig`: `from` gives what `predictor_in_numbers` says. Assumes nothing.
 use Rattle.numbers.proofs.Signs.{again}
-use Rattle.agc2.proofs.settings.predictor_in_numbers.Goals as goal
+use Rattle.agc2.proofs.settings.Agc2PredictorConfigFromClippingPredictorConfig.from.Goals as goal
 
 pub returns : goal.returns
 returns c =
