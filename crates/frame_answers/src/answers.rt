@@ -19,53 +19,46 @@ pub struct Answered {
     pub reply: Reply,
 }
 
-// The recommendation after a frame, beside that frame's mark. With a volume pending there always is one.
+// The recommendation after a frame, beside that frame's mark. With a volume pending there always is one. The control alone is changed, in its place: no ring is copied for it.
 fn recommended(
-    controller: InputVolumeController,
+    controller: &mut InputVolumeController,
     near: bool,
     probability: f32,
     level: Option<f32>,
-) -> Answered
-    requires { Good controller × VolumePending (view_of controller) }
-    ensures { RecommendedAs controller near probability level result }
+) -> Reply
+    requires { Good controller.old × VolumePending (view_of controller.old) }
+    ensures { RecommendedAs controller.old near probability level (record { controller = controller.new; reply = result }) }
 {
-    let done = controller.recommend_input_volume(probability, level);
+    let done = controller
+        .control
+        .recommend_input_volume(probability, level);
+    controller.control = done.control;
     let answer = done.answer;
-    let next = done.controller;
     let Some(volume) = answer else {
-        return Answered {
-            controller: next,
-            reply: Ok(Recommended { volume: 0, near }),
-        };
+        return Ok(Recommended { volume: 0, near });
     };
-    Answered {
-        controller: next,
-        reply: Ok(Recommended {
-            // Proved to fit; `try_from` would have an arm that never runs.
-            volume: volume.unsigned_abs() as u8,
-            near,
-        }),
-    }
+    Ok(Recommended {
+        // Proved to fit; `try_from` would have an arm that never runs.
+        volume: volume.unsigned_abs() as u8,
+        near,
+    })
 }
 
-// The frame of a line, and the recommendation that follows. It gets what was parsed, so that the controller is handed over for a line in order alone.
+// The frame of a line, and the recommendation that follows. It gets what was parsed, so that it is asked for a line in order alone, and the controller in its place: each pass by value would copy its rings.
 pub(crate) fn answer_frame(
-    controller: InputVolumeController,
+    controller: &mut InputVolumeController,
     parsed: Frame,
     samples: &[f32],
-) -> Answered
-    requires { Good controller }
-    ensures { FrameAnsweredAs controller (frame plain_limits (equal_volumes (pos parsed.volume) controller.control.channels.count) (length samples.now) samples.now) (recommendation parsed.probability parsed.level) result }
+) -> Reply
+    requires { Good controller.old }
+    ensures { FrameAnsweredAs controller.old (frame plain_limits (equal_volumes (pos parsed.volume) controller.old.control.channels.count) (length samples.now) samples.now) (recommendation parsed.probability parsed.level) (record { controller = controller.new; reply = result }) }
 {
     let heard = controller.analyze_input_audio(i32::from(parsed.volume), samples.len(), samples);
     let answer = heard.answer;
-    let next = heard.controller;
+    *controller = heard.controller;
     match answer {
-        Err(cause) => Answered {
-            controller: next,
-            reply: Err(cause),
-        },
-        Ok(near) => recommended(next, near, parsed.probability, parsed.level),
+        Err(cause) => Err(cause),
+        Ok(near) => recommended(controller, near, parsed.probability, parsed.level),
     }
 }
 
@@ -81,5 +74,10 @@ pub fn answer_line(controller: InputVolumeController, line: &[u8]) -> Answered
             reply: Err(Refusal::FrameLine),
         };
     };
-    answer_frame(controller, parsed, &samples[..parsed.count])
+    let mut next = controller;
+    let reply = answer_frame(&mut next, parsed, &samples[..parsed.count]);
+    Answered {
+        controller: next,
+        reply,
+    }
 }

@@ -126,9 +126,8 @@ impl Stream {
                     written = put_reply(out, written, Err(cause));
                 }
                 Ok(frame) => {
-                    let done = answer_frame(controller, frame, &samples[..frame.count]);
-                    controller = done.controller;
-                    written = put_reply(out, written, done.reply);
+                    let reply = answer_frame(&mut controller, frame, &samples[..frame.count]);
+                    written = put_reply(out, written, reply);
                 }
             }
         }

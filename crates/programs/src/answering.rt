@@ -84,7 +84,10 @@ fn answer_all<R: Env + Files + io::Input + Print, E: Print, A: Answering>(
         let Some(count) = next_piece(console, &mut input, begun, &mut piece)? else {
             return console.close();
         };
-        answering.answer(console, &piece[..count], out)?;
+        // an argument that was looked at, and the end of a file where no line has begun, bring nothing
+        if count > 0 {
+            answering.answer(console, &piece[..count], out)?;
+        }
     }
     Err(Failure::Failed)
 }

@@ -8,7 +8,6 @@ use crate::state::Records;
 use crate::{predictor, print, state};
 use input_volume_controller::{Analyzed, Created, InputVolumeController};
 use mono_input_volume_controller::config::Config;
-use std::array;
 
 // What is shown of a controller behind an answer.
 #[derive(Clone, Copy)]
@@ -163,7 +162,11 @@ impl Kept {
     fn framed_each<R: Print>(self, rt: &R, line: Line) -> Kept {
         let c = self.controller;
         let given = line.natural(1);
-        let volumes: [i32; 16] = array::from_fn(|i| line.number(i.saturating_add(2)));
+        let mut volumes = [0i32; 16];
+        // no more fields than the line has volumes: each field is looked for from the line's beginning
+        for (i, volume) in volumes[..given.min(16)].iter_mut().enumerate() {
+            *volume = line.number(i.saturating_add(2));
+        }
         let mut space = [0.0f32; 3840];
         let frame = line.floats(given + 2, &mut space);
         let samples = line.natural(0);

@@ -12,7 +12,7 @@ analyze_input_audio-heard-requires c = c.requires
 
 pub recommended-requires : goal.recommended-requires
 recommended-requires c =
-    let heard : AnalyzedOf plain_limits c.args.controller (pos c.args.parsed.volume) (length c.args.samples.now) c.args.samples.now c.analyze_input_audio-heard.result = heard_as _ _ _ _ _ _ (omega arith) c.from.ensures c.analyze_input_audio-heard.ensures in
+    let heard : AnalyzedOf plain_limits c.args.controller.now (pos c.args.parsed.volume) (length c.args.samples.now) c.args.samples.now c.analyze_input_audio-heard.result = heard_as _ _ _ _ _ _ (omega arith) c.from.ensures c.analyze_input_audio-heard.ensures in
     (heard.does.good, pending_after _ _ _ _ _ heard c.args.parsed.probability c.args.parsed.level _ c.in-Ok.is)
 
 pub returns-in-Err : goal.returns-in-Err

@@ -21,4 +21,4 @@ slice_bounds-answer_frame-end c =
 
 pub returns : goal.returns
 returns c =
-    c.answer_frame.ensures _ (makes_calls _ _ _ _ (told_frame _ _ _ _ _ (omega (arith, length-replicate 496 (of_bits binary32 0))) c.parse.ensures c.in-Some.is))
+    c.answer_frame-reply.ensures _ (makes_calls _ _ _ _ (told_frame _ _ _ _ _ (omega (arith, length-replicate 496 (of_bits binary32 0))) c.parse.ensures c.in-Some.is))

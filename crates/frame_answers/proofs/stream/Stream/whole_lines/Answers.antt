@@ -54,7 +54,7 @@ loop-room-preserved c = (
   search rules,
   goes_on _ _ _ _ _ _ _ _ c.loop-room.invariant.1 _ (sym c.in-Some.ensures) c.loop-room-test.true _
       (ends_within (record { controller = c.loop-room.controller; begun = c.args.self.begun }) c.loop-room.invariant.1.becomes.good c.requires.1 _ _
-      (c.answer_frame-done.ensures _ (makes_calls _ _ _ _ (told_frame _ _ _ _ _ (omega (arith, c.loop-room.invariant.0)) c.parse.ensures (was_parsed _ _ (sym c.in-Ok.ensures))))))
+      (c.answer_frame-reply.ensures _ (makes_calls _ _ _ _ (told_frame _ _ _ _ _ (omega (arith, c.loop-room.invariant.0)) c.parse.ensures (was_parsed _ _ (sym c.in-Ok.ensures))))))
       _ _ c.put_reply-written-in-Ok.ensures,
 )
 
