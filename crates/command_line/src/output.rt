@@ -1,5 +1,5 @@
 // Writing to standard output, and saying what failed. What the system does no contract can say, so of a write it is told how it may end.
-ghost use Rattle.std.specs.Prelude.{◌≡◌};
+ghost use Rattle.std.specs.Prelude.{◌≡◌, ◌≤◌, length};
 ghost use Rattle.command_line.specs.declared.ending.Failure.TheVariants.{Failed, Misused};
 ghost use Rattle.command_line.specs.Ending.{DoneOrFailed, ending_of};
 
@@ -21,28 +21,27 @@ pub struct Console<'a, R, E> {
 const WORDS: usize = 256;
 
 // The system's words for an error. std puts the error's number behind them, which is left out.
-fn words<'a>(error: &Error, space: &'a mut [u8]) -> &'a [u8] {
+fn words<'a>(error: &Error, space: &'a mut [u8]) -> &'a [u8]
+    ensures { length result.now ≤ length space.old }
+{
     let room = space.len();
     let mut rest: &mut [u8] = &mut space[..];
     let _ = write!(rest, "{error}");
     let written = room.saturating_sub(rest.len());
-    let text = &space[..written];
-    match str::from_utf8(text) {
-        Ok(words) => words
-            .rsplit_once(" (os error ")
-            .map_or(text, |(words, _)| words.as_bytes()),
-        Err(_) => text,
-    }
+    let end = match str::from_utf8(&space[..written]) {
+        Ok(text) => text.rfind(" (os error ").unwrap_or(written),
+        Err(_) => written,
+    };
+    &space[..end]
 }
 
 impl<R, E: Print> Console<'_, R, E> {
-    // A line on standard error, behind the program's name. Where that fails there is nobody left to tell.
+    // Words on standard error, behind the program's name. Where that fails there is nobody left to tell.
     fn tell(&self, parts: &[&[u8]]) {
         let _ = self.errors.write_all(self.program);
         for part in parts {
             let _ = self.errors.write_all(part);
         }
-        let _ = self.errors.write_all(b"\n");
     }
 
     // What failed, and why, is told.
@@ -51,7 +50,7 @@ impl<R, E: Print> Console<'_, R, E> {
     {
         let mut space = [0u8; WORDS];
         let why = words(error, &mut space);
-        self.tell(&[b": ", what, b": ", why]);
+        self.tell(&[b": ", what, b": ", why, b"\n"]);
         Failure::Failed
     }
 
@@ -59,7 +58,7 @@ impl<R, E: Print> Console<'_, R, E> {
     pub fn misused(&self, option: &[u8]) -> Ending
         ensures { result ≡ Err Misused }
     {
-        self.tell(&[b": unknown option ", option, b"; see --help"]);
+        self.tell(&[b": unknown option ", option, b"; see --help\n"]);
         Err(Failure::Misused)
     }
 
