@@ -1,15 +1,11 @@
 -- Sets of volumes: their numbers place by place, and their lowest. Assumes nothing.
 use mathlib.Core.Path.{◌≡◌, refl, sym, ap, ◌∙◌}
 use mathlib.Core.List.{List, [], ◌∷◌}
-use Prim.Native.Nat.{ℕ, zero, suc, ◌+◌, ◌≤◌, ◌<◌, min, zero-le}
+use Prim.Native.Nat.{ℕ, zero, suc, ◌+◌, ◌≤◌, ◌<◌, min}
 use native.Mathlib.Nat.{not-suc-le-zero, le_of_suc-le-suc}
 use native.Mathlib.Omega.{arith}
-use native.Mathlib.Decide.{dec_lt}
-use lib.IntN.{ℤ, pos, negsuc}
-use borrow.Author.Tests.{le-leb, lt-leb}
-use Rattle.std.specs.Prelude.{Option, Some, None, MatchOption, IsSomeAnd, Result, Ok, Err, unsigned_abs}
-use Rattle.std.specs.Int.{FitsUnsignedBits}
-use Rattle.std.specs.Result.{OkIff, result_ok}
+use lib.IntN.{ℤ, pos}
+use Rattle.std.specs.Prelude.{Option, Some, None}
 use lib.ListN.{length, get_or, drop, replicate, get_or-replicate, length-replicate}
 use Rattle.numbers.specs.Natural.{within_of}
 use Rattle.numbers.specs.Listed.{listed}
@@ -17,23 +13,10 @@ use Rattle.numbers.proofs.Listed.{drop_listed, drop_past, listed_same, listed_co
 use Rattle.clipping_predictor.specs.Predictor.{max_channels}
 use Rattle.mono_input_volume_controller.specs.MonoState.{max_input_volume}
 use Rattle.input_volume_controller.specs.Volumes.{outside_set, number_set, and_volume, equal_volumes, numbers_of, lowest_from, lowest_of}
-use Rattle.input_volume_controller.specs.VolumeSet.{level_at, levels_of, volumes_in, BytesOf}
+use Rattle.input_volume_controller.specs.VolumeSet.{level_at}
 use Rattle.input_volume_controller.proofs.SetNumbers.{equal_numbers}
 
 -- ---- the numbers of a set
-
--- a number that a byte holds, or none
-abbrev pub natural_of : Option ℕ → Option ℕ
-natural_of (Some n) = Some n
-natural_of None = None
-
--- what `u8::try_from` tells of a volume
-pub byte_told : {E : Type 0} (x : ℤ) (r : Result ℕ E) → OkIff r (FitsUnsignedBits 8 x) (unsigned_abs x) → within_of 0 max_input_volume x ≡ natural_of (result_ok r)
-unfolding within_of
-byte_told (pos n) (Ok m) h = rw (le-leb 0 n zero-le, le-leb n 255 (omega (arith, h.0))) (ap Some (sym h.1))
-byte_told (pos n) (Err e) h = elim (dec_lt n 256) [ yes l ↦ absurd (h l) | no g ↦ rw (le-leb 0 n zero-le, lt-leb n 255 (omega arith)) refl ]
-byte_told (negsuc n) (Ok m) h = absurd h.0
-byte_told (negsuc n) (Err e) h = refl
 
 abbrev pub number_at : List ℤ → ℕ → Option ℕ
 number_at volumes i = within_of 0 max_input_volume (get_or volumes i (pos 0))
@@ -72,22 +55,6 @@ module _ (volume : ℤ) (channels : ℕ) where
   pub equal_outside : 1 ≤ length (equal_volumes volume channels) → within_of 0 max_input_volume volume ≡ None → outside_set ≡ numbers_of (equal_volumes volume channels)
   equal_outside h e =
       numbers_outside (equal_volumes volume channels) 0 h (ap (within_of 0 max_input_volume) (get_or-replicate channels 0 volume (pos 0) (omega (arith, length-replicate channels volume))) ∙ e)
-
--- the bytes of one for all
-abbrev pub equal_of : Option ℕ → Option (List ℕ)
-equal_of (Some level) = Some (replicate max_channels level)
-equal_of None = None
-
-pub equal_told : (volume : ℤ) (channels : ℕ) (o : Option ℕ) → within_of 0 max_input_volume volume ≡ natural_of o → BytesOf (equal_volumes volume channels) (equal_of o)
-unfolding volumes_in levels_of
-equal_told volume channels (Some level) e low high = equal_bytes volume channels level high e
-equal_told volume channels None e low high = equal_outside volume channels low e
-
--- what `map` leaves of it
-pub mapped : (o : Option ℕ) (r : Option (List ℕ)) {P : ℕ → List ℕ → Type 0} → MatchOption o (r ≡ None) (λ x. IsSomeAnd r (P x)) → ((x : ℕ) (l : List ℕ) → P x l → l ≡ replicate max_channels x) → r ≡ equal_of o
-mapped (Some x) (Some l) h f = ap Some (f x l h)
-mapped (Some x) None h f = absurd h
-mapped None r h f = h
 
 -- ---- the lowest
 

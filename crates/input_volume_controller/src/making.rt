@@ -88,8 +88,7 @@ fn decide(
     with_settings(channels, settings, predictor)
 }
 
-// All refusals of the plain controller come first, and then the profile's, cause 19: settings that the plain controller takes, and the profile does not. Out of line for the stack's sake.
-#[inline(never)]
+// All refusals of the plain controller come first, and then the profile's, cause 19: settings that the plain controller takes, and the profile does not.
 // The arguments of a making go on as they came: a struct of them would be taken apart again at once.
 fn decide_in(
     profile: Profile,

@@ -8,8 +8,7 @@ use crate::volume_set::VolumeSet;
 use clipping_predictor::{MAX_CHANNELS, frame_fits};
 use numbers::refusal::Refusal;
 
-// The volumes of a frame that is taken. Causes 20, 8, 9 and 18, in that order. Out of line for the stack's sake.
-#[inline(never)]
+// The volumes of a frame that is taken. Causes 20, 8, 9 and 18, in that order.
 pub fn accepted_volumes(
     most: Limits,
     channels: usize,

@@ -1,10 +1,11 @@
 // The volumes of all channels, one each: taken apart here, once, and whole or not at all. Inside they are bytes.
-ghost use Rattle.std.specs.Prelude.{◌≡◌, ◌≤◌, replicate};
+ghost use Rattle.std.specs.Prelude.{◌≡◌, ◌≤◌};
 ghost use Rattle.clipping_predictor.specs.Predictor.{max_channels};
 ghost use Rattle.input_volume_controller.specs.Volumes.{equal_volumes, lowest_of};
 ghost use Rattle.input_volume_controller.specs.VolumeSet.{levels_of, BytesOf, SetOf};
 
 use clipping_predictor::MAX_CHANNELS;
+use numbers::natural::within;
 
 // How many volumes were given, and the volumes by their channels, if all lie from 0 to 255. More than eight are not taken, and no place past the last is used.
 #[derive(Clone, Copy)]
@@ -21,7 +22,8 @@ fn bytes_of(volumes: &[i32]) -> Option<[u8; MAX_CHANNELS]>
     }
     let mut levels = [0; MAX_CHANNELS];
     for (i, volume) in volumes.iter().enumerate() {
-        levels[i] = u8::try_from(*volume).ok()?;
+        // The casts of this file are proved to fit; `try_from` would have an arm that never runs.
+        levels[i] = within(0, 255, *volume)? as u8;
     }
     Some(levels)
 }
@@ -40,14 +42,14 @@ pub fn lent_volumes(volumes: &[i32]) -> VolumeSet
 pub fn equal_volumes(volume: i32, channels: usize) -> VolumeSet
     ensures { SetOf (equal_volumes volume channels) result }
 {
-    let level = u8::try_from(volume).ok();
-    let levels = level.map(
-        |level|
-            ensures { result ≡ replicate max_channels level }
-        { [level; MAX_CHANNELS] },
-    );
+    let Some(level) = within(0, 255, volume) else {
+        return VolumeSet {
+            levels: None,
+            count: channels,
+        };
+    };
     VolumeSet {
-        levels,
+        levels: Some([level as u8; MAX_CHANNELS]),
         count: channels,
     }
 }

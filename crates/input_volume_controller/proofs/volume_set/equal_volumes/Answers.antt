@@ -1,21 +1,33 @@
 -- `equal_volumes` meets its contract. Assumes nothing.
-use mathlib.Core.Path.{◌≡◌, sym, ap, subst, ◌∙◌}
-use mathlib.Core.List.{List}
-use Prim.Native.Nat.{ℕ}
+use mathlib.Core.Path.{◌≡◌, sym, ap, ◌∙◌}
+use native.Mathlib.Omega.{arith}
 use lib.ListN.{length-replicate}
-use borrow.Author.Rules.{rules}
-use Rattle.std.specs.Prelude.{Option}
+use Rattle.std.specs.Prelude.{Some}
 use Rattle.numbers.specs.Natural.{within_of}
+use Rattle.numbers.proofs.Ranges.{told}
 use Rattle.numbers.proofs.Signs.{again}
 use Rattle.mono_input_volume_controller.specs.MonoState.{max_input_volume}
-use Rattle.input_volume_controller.specs.Volumes.{equal_volumes}
-use Rattle.input_volume_controller.specs.VolumeSet.{BytesOf}
-use Rattle.input_volume_controller.proofs.Sets.{natural_of, equal_of, equal_told, mapped, byte_told}
+use Rattle.input_volume_controller.specs.VolumeSet.{levels_of, volumes_in}
+use Rattle.input_volume_controller.proofs.Sets.{equal_bytes, equal_outside}
 use Rattle.input_volume_controller.proofs.volume_set.equal_volumes.Goals as goal
+use Rattle.input_volume_controller.proofs.volume_set.equal_volumes.Goals.{After-within, In-Some}
+
+-- the test of the volume, which the machine reads back
+test_is : (c : After-within) → within_of 0 max_input_volume c.args.volume ≡ c.within.result
+test_is c = ap (within_of 0 max_input_volume) (sym (again c.args.volume c.ranges.volume.sfits)) ∙ sym c.within.ensures
+
+number_is : (c : In-Some) → within_of 0 max_input_volume c.args.volume ≡ Some c.in-Some.level
+number_is c = test_is c.before ∙ c.in-Some.is
+
+pub returns-in_default : goal.returns-in_default
+unfolding volumes_in
+returns-in_default c =
+    record { count = sym (length-replicate _ _); numbers = λ low high. equal_outside c.args.volume c.args.channels low (test_is c.before ∙ c.in_default.is) }
+
+pub overflow_cast-result : goal.overflow_cast-result
+overflow_cast-result c = let t = told 0 max_input_volume _ _ (number_is c) in omega (arith, t.most)
 
 pub returns : goal.returns
+unfolding volumes_in levels_of
 returns c =
-    let tested : within_of 0 max_input_volume c.args.volume ≡ natural_of c.ok-level.result =
-    ap (within_of 0 max_input_volume) (sym (again c.args.volume c.ranges.volume.sfits)) ∙ byte_told _ _ c.try_from.ensures ∙ ap natural_of (sym c.ok-level.ensures.value) in
-    let same : c.map-levels.result ≡ equal_of c.ok-level.result = mapped c.ok-level.result c.map-levels.result c.map-levels.ensures.cases (λ x l post. search rules) in
-    record { count = sym (length-replicate _ _); numbers = subst (λ (b : Option (List ℕ)). BytesOf (equal_volumes c.args.volume c.args.channels) b) (sym same) (equal_told c.args.volume c.args.channels c.ok-level.result tested) }
+    record { count = sym (length-replicate _ _); numbers = λ low high. equal_bytes c.args.volume c.args.channels _ high (number_is c) }
